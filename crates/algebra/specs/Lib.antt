@@ -1,0 +1,15 @@
+pub mod Test
+pub mod Ring
+pub mod Solve
+pub mod Vec
+pub mod Series
+pub mod Poly
+pub mod Divide
+pub mod UnitDivide
+pub mod Quotient
+pub mod Zmod
+pub mod Divisor
+pub mod PolyRing
+pub mod Monic
+pub mod Residue
+pub mod Shape

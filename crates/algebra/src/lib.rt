@@ -1,0 +1,1 @@
+// Definitions and theorems only, in specs/: this crate has no code.

@@ -1,0 +1,11 @@
+pub mod Answer
+pub mod Level
+pub mod Sequence
+pub mod Turn
+pub mod Number
+pub mod Inverse
+pub mod Gcd
+pub mod Demand
+pub mod Towers
+pub mod Free
+pub mod Figures
