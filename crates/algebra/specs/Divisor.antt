@@ -1,7 +1,7 @@
 -- Divisors and units of a commutative ring, zero divisors allowed: what a step of Euclid's algorithm keeps.
 --
 -- Dvd a b, IsUnit a, Common x f g  == a divides b; a has an inverse; x divides f and g
--- dvd-refl, dvd-trans, dvd-comb .. == what divides two elements divides their combinations
+-- dvd-refl, dvd-zero, dvd-+, dvd-neg, dvd-l == what divides two elements divides their sum, negatives and multiples
 -- inv-unique   == an element has at most one inverse
 -- common-step  == f and g have the divisors of g and f less a multiple of g;  common-unit == a unit changes no divisors
 use mathlib.Core.Path.{_≡_, refl, ap, ap₂, sym, _∙_}
@@ -32,9 +32,6 @@ module _ (R : CRing) where
   pub dvd-refl : (a : Car) → Dvd a a
   dvd-refl a = record { times = 𝟙; eq = sym (⊗-one a) }
 
-  pub dvd-trans : {a b c : Car} → Dvd a b → Dvd b c → Dvd a c
-  dvd-trans {a} {b} {c} h k = record { times = h .times ⊗ k .times; eq = k .eq ∙ ap (λ x. x ⊗ k .times) (h .eq) ∙ ⊗-assoc _ _ _ }
-
   pub dvd-zero : (a : Car) → Dvd a 𝟘
   dvd-zero a = record { times = 𝟘; eq = solve₁ R a (λ a. c0 ≐ a :* c0) refl }
 
@@ -46,10 +43,6 @@ module _ (R : CRing) where
 
   pub dvd-l : {x a : Car} (b : Car) → Dvd x a → Dvd x (b ⊗ a)
   dvd-l {x} b h = record { times = b ⊗ h .times; eq = ap (λ y. b ⊗ y) (h .eq) ∙ solve₃ R b x (h .times) (λ b x c. b :* (x :* c) ≐ x :* (b :* c)) refl }
-
-  -- what divides two elements divides their combinations
-  pub dvd-comb : {x a b : Car} (s t : Car) → Dvd x a → Dvd x b → Dvd x (s ⊗ a ⊕ t ⊗ b)
-  dvd-comb s t h k = dvd-+ (dvd-l s h) (dvd-l t k)
 
   -- an inverse is unique
   pub inv-unique : (a b c : Car) → a ⊗ b ≡ 𝟙 → a ⊗ c ≡ 𝟙 → b ≡ c

@@ -7,11 +7,11 @@
 use mathlib.Core.Path.{_≡_, refl, ap, sym, _∙_, subst, fun-ext}
 use mathlib.Core.Logic.{∥∥₁-prop, ∥∥₁-map, ∥∥₁-map₂, ∥∥₁-elim}
 use mathlib.Core.HLevel.{Σ-prop-path, Σ-set, prop→set}
-use Prim.Native.Nat.{ℕ, zero, suc}
-use Rattle.algebra.specs.Ring.{CRing, ⊗-zero}
+use Prim.Native.Nat.{ℕ}
+use Rattle.algebra.specs.Ring.{CRing}
 use Rattle.algebra.specs.Solve.{_:+_, _:-_, _≐_, solve₂}
 use Rattle.algebra.specs.Vec.{Vec, Below}
-use Rattle.algebra.specs.Series.{Series, SeriesRing, const, const-*}
+use Rattle.algebra.specs.Series.{Series, SeriesRing, const-inverse}
 use Rattle.algebra.specs.Poly.{Poly, 0ᴾ, constᴾ, _+ᴾ_, -ᴾ_, _*ᴾ_, poly, monic}
 use Rattle.algebra.specs.Divide.{quotient, remainder, divided}
 use Rattle.algebra.specs.Divisor.{IsUnit}
@@ -84,11 +84,7 @@ module _ (R : CRing) where
   pol-nil v = P-path _ _ (λ n. refl)
 
   pub con-unit : (i c : Car) → i ⊗ c ≡ 𝟙 → IsUnit PolyRing (con i)
-  con-unit i c h = record { inv = con c; eq = P-path _ _ at }
-    where
-      at : (n : ℕ) → (const R i *ˢ const R c) n ≡ const R 𝟙 n
-      at zero = const-* R i (const R c) zero ∙ h
-      at (suc n) = const-* R i (const R c) (suc n) ∙ ⊗-zero R i
+  con-unit i c h = record { inv = con c; eq = P-path _ _ (const-inverse R i c h) }
 
   module _ (d : ℕ) (w : Vec Car d) (n : ℕ) (v : Vec Car n) where
     pub divided-pol : pol n v ≡ pol n (quotient R d w n v) *ᴷ mon d w +ᴷ pol d (remainder R d w n v)

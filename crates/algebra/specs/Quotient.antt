@@ -60,12 +60,6 @@ module _ (R : CRing) (d : ℕ) (w : Vec (R .Car) d) where
         ∙ solve₅ S (p′ .co) (q′ .co) (h .by .co) (k .by .co) m (λ x y q r m. (x :+ q :* m) :+ (y :+ r :* m) ≐ (x :+ y) :+ (q :+ r) :* m) refl;
   }
 
-  pub cong-neg : {p p′ : Poly R} → Cong p p′ → Cong (-ᴾ_ R p) (-ᴾ_ R p′)
-  cong-neg {p} {p′} h = record {
-    by = -ᴾ_ R (h .by);
-    eq = ap -ˢ_ (h .eq) ∙ solve₃ S (p′ .co) (h .by .co) m (λ x q m. :~ (x :+ q :* m) ≐ (:~ x) :+ (:~ q) :* m) refl;
-  }
-
   pub cong-* : {p p′ q q′ : Poly R} → Cong p p′ → Cong q q′ → Cong (_*ᴾ_ R p q) (_*ᴾ_ R p′ q′)
   cong-* {p} {p′} {q} {q′} h k = record {
     by = _+ᴾ_ R (_+ᴾ_ R (_*ᴾ_ R (h .by) q′) (_*ᴾ_ R p′ (k .by))) (_*ᴾ_ R (_*ᴾ_ R (h .by) (k .by)) (monic R d w));

@@ -1,12 +1,24 @@
 -- Commutative rings, as a sum (an abelian group) and a product on it, and the laws that the ring solver rests on.
 --
--- Group    == a set with sum, negative and zero
+-- GroupOn A == zero, sum and negative on the type A;  Group == a type with these;  bundle, sumOf == from one to the other and back
 -- Times G  == a product on the group G that makes it a commutative ring
 -- CRing    == a commutative ring; ringOf G T puts one together, groupOf R takes its sum
 --
 -- The two halves are kept apart because an element of a tower, its sum and its writing know nothing of the tower's polynomials: these enter with
 -- the product alone.
 use mathlib.Core.Path.{_≡_, ap, ap₂, sym, _∙_}
+
+pub record GroupOn (A : Type 0) : Type 0 where
+  infixl 65 _⊕_
+  infix 75 ⊖_
+  pub isSet : IsSet A
+  pub 𝟘 : A
+  pub _⊕_ : A → A → A
+  pub ⊖_ : A → A
+  pub ⊕-assoc : (a b c : A) → (a ⊕ b) ⊕ c ≡ a ⊕ (b ⊕ c)
+  pub ⊕-comm : (a b : A) → a ⊕ b ≡ b ⊕ a
+  pub ⊕-zero : (a : A) → a ⊕ 𝟘 ≡ a
+  pub ⊕-neg : (a : A) → a ⊕ (⊖ a) ≡ 𝟘
 
 pub record Group : Type 1 where
   infixl 65 _⊕_
@@ -50,6 +62,31 @@ pub record CRing : Type 1 where
   pub ⊗-one : (a : Car) → a ⊗ 𝟙 ≡ a
   pub ⊗-dist : (a b c : Car) → a ⊗ (b ⊕ c) ≡ a ⊗ b ⊕ a ⊗ c
 
+abbrev pub bundle : (A : Type 0) → GroupOn A → Group
+bundle A G = record {
+  Car = A;
+  isSet = G .isSet;
+  𝟘 = G .𝟘;
+  _⊕_ = G ._⊕_;
+  ⊖_ = G .⊖_;
+  ⊕-assoc = G .⊕-assoc;
+  ⊕-comm = G .⊕-comm;
+  ⊕-zero = G .⊕-zero;
+  ⊕-neg = G .⊕-neg;
+}
+
+abbrev pub sumOf : (G : Group) → GroupOn (G .Car)
+sumOf G = record {
+  isSet = G .isSet;
+  𝟘 = G .𝟘;
+  _⊕_ = G ._⊕_;
+  ⊖_ = G .⊖_;
+  ⊕-assoc = G .⊕-assoc;
+  ⊕-comm = G .⊕-comm;
+  ⊕-zero = G .⊕-zero;
+  ⊕-neg = G .⊕-neg;
+}
+
 abbrev pub ringOf : (G : Group) → Times G → CRing
 ringOf G T = record {
   Car = G .Car;
@@ -81,6 +118,9 @@ groupOf R = record {
   ⊕-zero = R .⊕-zero;
   ⊕-neg = R .⊕-neg;
 }
+
+pub negative-zero : (G : Group) → G .⊖_ (G .𝟘) ≡ G .𝟘
+negative-zero G = sym (G .⊕-zero (G .⊖_ (G .𝟘))) ∙ G .⊕-comm (G .⊖_ (G .𝟘)) (G .𝟘) ∙ G .⊕-neg (G .𝟘)
 
 module _ (R : CRing) where
   open CRing R using (Car, 𝟘, 𝟙, _⊕_, _⊗_, ⊖_, ⊕-assoc, ⊕-comm, ⊕-zero, ⊕-neg, ⊗-assoc, ⊗-comm, ⊗-one, ⊗-dist)
@@ -127,7 +167,7 @@ module _ (R : CRing) where
   zero-⊗ a = ⊗-comm 𝟘 a ∙ ⊗-zero a
 
   pub neg-zero : ⊖ 𝟘 ≡ 𝟘
-  neg-zero = sym (neg-unique 𝟘 𝟘 (⊕-zero 𝟘))
+  neg-zero = negative-zero (groupOf R)
 
   pub neg-neg : (a : Car) → ⊖ (⊖ a) ≡ a
   neg-neg a = sym (neg-unique (⊖ a) a (neg-⊕ a))

@@ -1,8 +1,12 @@
 -- Coefficient functions over a commutative ring: R[[z]], again a commutative ring.
+--
+-- Series R, SeriesRing R  == the functions, and their ring;  _*ˢ_ == the product, by its first factor's lowest coefficient
+-- tail, cons, const, scale == without the lowest coefficient; with one more; a constant; a constant times f
+-- const-*, const-inverse  == a constant times f; two constants whose product is 1
 use mathlib.Core.Path.{_≡_, refl, sym, _∙_, fun-ext}
 use mathlib.Core.HLevel.{Π-set}
 use Prim.Native.Nat.{ℕ, zero, suc}
-use Rattle.algebra.specs.Ring.{CRing, one-⊗, ⊗-dist-r, zero-⊗}
+use Rattle.algebra.specs.Ring.{CRing, one-⊗, ⊗-dist-r, ⊗-zero, zero-⊗}
 use Rattle.algebra.specs.Solve.{_:+_, _:*_, _≐_, solve₃, solve₄, solve₅}
 
 module _ (R : CRing) where
@@ -74,6 +78,10 @@ module _ (R : CRing) where
   pub const-* : (a : Car) (g : Series) (n : ℕ) → (const a *ˢ g) n ≡ a ⊗ g n
   const-* a g zero = *ˢ-zero _ _
   const-* a g (suc n) = simp (*ˢ-suc, 0ˢ-* g n, ⊕-zero)
+
+  pub const-inverse : (i c : Car) → i ⊗ c ≡ 𝟙 → (n : ℕ) → (const i *ˢ const c) n ≡ 1ˢ n
+  const-inverse i c h zero = const-* i (const c) zero ∙ h
+  const-inverse i c h (suc n) = const-* i (const c) (suc n) ∙ ⊗-zero R i
 
   -- tail (f g) = f₀ tail g + tail f g
   pub tail-* : (f g : Series) → tail (f *ˢ g) ≡ scale (f zero) (tail g) +ˢ (tail f *ˢ g)

@@ -1,10 +1,14 @@
 -- A commutative-ring solver by computation: an expression over variables is brought to a sorted list of signed monomials,
 -- and two expressions with the same list have the same value in every commutative ring.
+--
+-- Ex, _:+_, _:*_, :~_, _:-_, c0, c1, var  == expressions;  _≐_ == an equation between two
+-- solve₃ R a b c (λ a b c. l ≐ r) refl    == the identity l = r at the values a, b, c; and so for one to five values;  solve == for a list of values
 use mathlib.Core.Path.{_≡_, refl, ap, ap₂, sym, _∙_}
 use mathlib.Core.Bool.{Bool, true, false, not, _&&_}
 use mathlib.Core.List.{List, [], _∷_}
 use Prim.Native.Nat.{ℕ, zero, suc, _+_, _^_}
 use lib.Dec.{T, leb, ltb, eqb, eqb→eq}
+use Rattle.algebra.specs.Test.{both-l, both-r}
 use Rattle.algebra.specs.Ring.{CRing, zero-⊕, one-⊗, ⊗-dist-r, ⊕-left, ⊗-left, ⊕-cancel-neg, neg-cancel-⊕, ⊗-zero, zero-⊗, neg-zero, neg-neg, neg-sum, neg-⊗, ⊗-neg}
 
 infixl 65 _:+_ _:-_
@@ -115,16 +119,10 @@ abbrev pub Same : Eqn → Type 0
 Same q = norm (q .lhs) ≡ norm (q .rhs)
 
 -- the tests' meaning
-and-l : (a b : Bool) → T (a && b) → T a
-and-l true b h = tt
-
-and-r : (a b : Bool) → T (a && b) → T b
-and-r true b h = h
-
 eqMon-sound : (m n : Mon) → T (eqMon m n) → m ≡ n
 eqMon-sound [] [] h = refl
 eqMon-sound (i ∷ m) (j ∷ n) h =
-    ap₂ _∷_ (eqb→eq i j (and-l (eqb i j) (eqMon m n) h)) (eqMon-sound m n (and-r (eqb i j) (eqMon m n) h))
+    ap₂ _∷_ (eqb→eq i j (both-l (eqb i j) (eqMon m n) h)) (eqMon-sound m n (both-r (eqb i j) (eqMon m n) h))
 
 module _ (R : CRing) where
   open CRing R using (Car, 𝟘, 𝟙, _⊕_, _⊗_, ⊖_, ⊕-assoc, ⊕-comm, ⊕-zero, ⊕-neg, ⊗-assoc, ⊗-comm, ⊗-one, ⊗-dist)
@@ -175,8 +173,8 @@ module _ (R : CRing) where
 
     cancels-ok : (t u : Term) → T (cancels t u) → (x : Car) → evT t ⊕ (evT u ⊕ x) ≡ x
     unfolding evT
-    cancels-ok (term true k m) (term false l n) h x = rw (eqMon-sound m n (and-r (eqb k l) (eqMon m n) h)) (⊕-cancel-neg R _ _)
-    cancels-ok (term false k m) (term true l n) h x = rw (eqMon-sound m n (and-r (eqb k l) (eqMon m n) h)) (neg-cancel-⊕ R _ _)
+    cancels-ok (term true k m) (term false l n) h x = rw (eqMon-sound m n (both-r (eqb k l) (eqMon m n) h)) (⊕-cancel-neg R _ _)
+    cancels-ok (term false k m) (term true l n) h x = rw (eqMon-sound m n (both-r (eqb k l) (eqMon m n) h)) (neg-cancel-⊕ R _ _)
 
     mulTerm-ok : (t u : Term) → evT (mulTerm t u) ≡ evT t ⊗ evT u
     unfolding evT
@@ -247,7 +245,3 @@ module _ (R : CRing) where
   pub solve₅ : (a b c d e : Car) (f : Ex → Ex → Ex → Ex → Ex → Eqn) → Same (f (var 0) (var 1) (var 2) (var 3) (var 4))
       → Holds (a ∷ b ∷ c ∷ d ∷ e ∷ []) (f (var 0) (var 1) (var 2) (var 3) (var 4))
   solve₅ a b c d e f h = solve (a ∷ b ∷ c ∷ d ∷ e ∷ []) (f (var 0) (var 1) (var 2) (var 3) (var 4)) h
-
-  pub solve₆ : (a b c d e g : Car) (f : Ex → Ex → Ex → Ex → Ex → Ex → Eqn) → Same (f (var 0) (var 1) (var 2) (var 3) (var 4) (var 5))
-      → Holds (a ∷ b ∷ c ∷ d ∷ e ∷ g ∷ []) (f (var 0) (var 1) (var 2) (var 3) (var 4) (var 5))
-  solve₆ a b c d e g f h = solve (a ∷ b ∷ c ∷ d ∷ e ∷ g ∷ []) (f (var 0) (var 1) (var 2) (var 3) (var 4) (var 5)) h

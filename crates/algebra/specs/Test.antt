@@ -1,6 +1,8 @@
--- Tests that compute: a Bool, with what it means. (EqTest, branch, allTo, le-or-lt.)
--- Equality by a test: (The library's `×-discrete` and `Σ-prop-discrete` are shut, and a `Dec` carries
--- a proof that is computed along with the answer.)
+-- Tests that compute: a Bool, with what it means. (A `Dec` would carry a proof that is computed along with the answer.)
+--
+-- EqTest A      == equality by a test;  test-set == what has one is a set
+-- ZeroTest o z  == z tells whether an element is o
+-- branch        == by cases on a test, with what it says;  both .. == two tests;  allTo == each number below n;  le-or-lt == two numbers
 use mathlib.Core.Path.{_≡_, sym, subst}
 use mathlib.Core.Bool.{Bool, true, false, not, _&&_}
 use mathlib.Core.HLevel.{hedberg}
@@ -15,6 +17,10 @@ pub record EqTest (A : Type 0) : Type 0 where
   pub sound : (a b : A) → T (eq a b) → a ≡ b
   pub same : (a : A) → T (eq a a)
 
+pub record ZeroTest {A : Type 0} (o : A) (z : A → Bool) : Type 0 where
+  pub sound : (a : A) → T (z a) → a ≡ o
+  pub same : T (z o)
+
 -- by cases on a test, with what it says
 abbrev pub branch : {A : Type 0} (b : Bool) → (T b → A) → (T (not b) → A) → A
 branch true x y = x tt
@@ -25,6 +31,9 @@ test-complete E {a} {b} p = subst (λ x. T (E .eq a x)) p (E .same a)
 
 pub differ : {A : Type 0} (E : EqTest A) {a b : A} → T (not (E .eq a b)) → ¬ (a ≡ b)
 differ E {a} {b} h p = T-not (E .eq a b) h (test-complete E p)
+
+pub not-zero : {A : Type 0} {o : A} {z : A → Bool} → ZeroTest o z → (a : A) → T (not (z a)) → ¬ (a ≡ o)
+not-zero {A} {o} {z} Z a h e = T-not (z a) h (subst (λ x. T (z x)) (sym e) (Z .same))
 
 pub test-discrete : {A : Type 0} → EqTest A → Discrete A
 test-discrete E a b = branch (E .eq a b) (λ h. yes (E .sound a b h)) (λ h. no (differ E h))
@@ -58,10 +67,3 @@ allTo-make (suc n) f h = both (allTo n f) (f n) (allTo-make n f (λ k l. h k (om
 -- two numbers
 pub le-or-lt : (m n : ℕ) → (m ≤ n) ⊎ (n < m)
 le-or-lt m n = branch (leb m n) (λ h. inl (leb→le m n h)) (λ h. inr (nleb→lt m n h))
-
-abbrev pub ×-test : {A B : Type 0} → EqTest A → EqTest B → EqTest (A × B)
-×-test E F = record {
-  eq = λ x y. E .eq (x .0) (y .0) && F .eq (x .1) (y .1);
-  sound = λ x y h. λ i. (E .sound _ _ (both-l (E .eq (x .0) (y .0)) _ h) i, F .sound _ _ (both-r (E .eq (x .0) (y .0)) _ h) i);
-  same = λ x. both (E .eq (x .0) (x .0)) (F .eq (x .1) (x .1)) (E .same (x .0)) (F .same (x .1));
-}

@@ -4,11 +4,11 @@
 -- quotientᵘ, remainderᵘ R d u i k v  == by the polynomial with the d coefficients u under c
 -- dividedᵘ, quotientᵘ-is, remainderᵘ-is, quotientᵘ-below, quotientᵘ-top  == as in Divide
 use mathlib.Core.Path.{_≡_, refl, ap, ap₂, sym, _∙_, fun-ext}
-use Prim.Native.Nat.{ℕ, zero, suc, _+_}
+use Prim.Native.Nat.{ℕ, suc, _+_}
 use Rattle.algebra.specs.Ring.{CRing, one-⊗, ⊗-zero}
 use Rattle.algebra.specs.Solve.{_:*_, _≐_, solve₃, solve₄}
 use Rattle.algebra.specs.Vec.{Vec, coef, Below, mapᵛ, topped, coef-map, map-topped}
-use Rattle.algebra.specs.Series.{Series, SeriesRing, scale, const, const-*}
+use Rattle.algebra.specs.Series.{Series, SeriesRing, scale, const, const-*, const-inverse}
 use Rattle.algebra.specs.Poly.{crown, below-scale}
 use Rattle.algebra.specs.Divide.{quotient, remainder, divided, quotient-is, remainder-is, quotient-below, quotient-top}
 
@@ -57,11 +57,7 @@ module _ (R : CRing) (d : ℕ) (u : Vec (R .Car) d) (i : R .Car) where
     monic-is = fun-ext (λ n. made-monic R d u c i unit n ∙ sym (const-* R i g n))
 
     units : const R i *ˢ const R c ≡ S .𝟙
-    units = fun-ext at
-      where
-        at : (n : ℕ) → (const R i *ˢ const R c) n ≡ const R 𝟙 n
-        at zero = const-* R i (const R c) zero ∙ unit
-        at (suc n) = const-* R i (const R c) (suc n) ∙ ⊗-zero R i
+    units = fun-ext (const-inverse R i c unit)
 
     scale-is : (a : Car) (f : Series R) → scale R a f ≡ const R a *ˢ f
     scale-is a f = fun-ext (λ n. sym (const-* R a f n))

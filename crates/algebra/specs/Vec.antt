@@ -8,14 +8,16 @@
 -- zeroᵛ o d      == d times o;  mapᵛ, zipᵛ == by places
 -- topped d w c   == the d coefficients w and c above them: with c = 1 a monic polynomial of degree d
 -- init, last     == the d coefficients and the one above them, of d + 1
+-- allᵛ, zero-vec == every place passes a test; a test for zero tells the zero vector
 -- vecGroup G d   == the group of vectors of d elements of G
 use mathlib.Core.Path.{_≡_, refl, ap, sym, _∙_, fun-ext}
-use mathlib.Core.Bool.{true}
+use mathlib.Core.Bool.{Bool, true, _&&_}
 use mathlib.Core.HLevel.{Σ-set, prop→set, Unit-prop}
 use Prim.Native.Nat.{ℕ, zero, suc, _≤_}
 use native.Mathlib.Omega.{arith}
-use Rattle.algebra.specs.Test.{EqTest, ×-test}
-use Rattle.algebra.specs.Ring.{Group}
+use lib.Dec.{T}
+use Rattle.algebra.specs.Test.{ZeroTest, both, both-l, both-r}
+use Rattle.algebra.specs.Ring.{Group, negative-zero}
 
 abbrev pub Vec : Type 0 → ℕ → Type 0
 Vec A zero = Unit {0}
@@ -24,10 +26,6 @@ Vec A (suc d) = A × Vec A d
 pub Vec-set : {A : Type 0} → IsSet A → (d : ℕ) → IsSet (Vec A d)
 Vec-set s zero = prop→set Unit-prop
 Vec-set s (suc d) = Σ-set s (λ _. Vec-set s d)
-
-abbrev pub Vec-test : {A : Type 0} → EqTest A → (d : ℕ) → EqTest (Vec A d)
-Vec-test E zero = record { eq = λ x y. true; sound = λ x y h. refl; same = λ x. tt }
-Vec-test E (suc d) = ×-test E (Vec-test E d)
 
 abbrev pub coef : {A : Type 0} → A → (d : ℕ) → Vec A d → ℕ → A
 coef o zero v n = o
@@ -64,6 +62,11 @@ init (suc d) v = (v .0, init d (v .1))
 abbrev pub last : {A : Type 0} (d : ℕ) → Vec A (suc d) → A
 last zero v = v .0
 last (suc d) v = last d (v .1)
+
+-- every place passes the test
+abbrev pub allᵛ : {A : Type 0} → (A → Bool) → (d : ℕ) → Vec A d → Bool
+allᵛ z zero v = true
+allᵛ z (suc d) v = z (v .0) && allᵛ z d (v .1)
 
 -- ---- coefficients
 module _ {A : Type 0} (o : A) where
@@ -119,15 +122,24 @@ pub topped-split : {A : Type 0} (d : ℕ) (v : Vec A (suc d)) → topped d (init
 topped-split zero v = refl
 topped-split (suc d) v = λ i. (v .0, topped-split d (v .1) i)
 
+-- where the test tells zero, it tells the zero vector
+pub zero-vec : {A : Type 0} {o : A} {z : A → Bool} → ZeroTest o z → (d : ℕ) → ZeroTest (zeroᵛ o d) (allᵛ z d)
+zero-vec {A} {o} {z} Z d = record { sound = sound d; same = same d }
+  where
+    sound : (d : ℕ) (v : Vec A d) → T (allᵛ z d v) → v ≡ zeroᵛ o d
+    sound zero v h = refl
+    sound (suc d) v h = λ i. (Z .sound (v .0) (both-l (z (v .0)) _ h) i, sound d (v .1) (both-r (z (v .0)) _ h) i)
+
+    same : (d : ℕ) → T (allᵛ z d (zeroᵛ o d))
+    same zero = tt
+    same (suc d) = both (z o) (allᵛ z d (zeroᵛ o d)) (Z .same) (same d)
+
 -- ---- sums by places
 module _ (G : Group) where
   open Group G using (Car, 𝟘, _⊕_, ⊖_, ⊕-assoc, ⊕-comm, ⊕-zero, ⊕-neg)
 
   infixl 65 _⊕_
   infix 75 ⊖_
-  negative-zero : ⊖ 𝟘 ≡ 𝟘
-  negative-zero = sym (⊕-zero (⊖ 𝟘)) ∙ ⊕-comm (⊖ 𝟘) 𝟘 ∙ ⊕-neg 𝟘
-
   abbrev pub addᵛ : (d : ℕ) → Vec Car d → Vec Car d → Vec Car d
   addᵛ d u v = zipᵛ _⊕_ d u v
 
@@ -138,7 +150,7 @@ module _ (G : Group) where
   coef-add d u v n = coef-zip _⊕_ (⊕-zero 𝟘) d u v n
 
   pub coef-neg : (d : ℕ) (u : Vec Car d) (n : ℕ) → coef 𝟘 d (negᵛ d u) n ≡ ⊖ coef 𝟘 d u n
-  coef-neg d u n = coef-map ⊖_ negative-zero d u n
+  coef-neg d u n = coef-map ⊖_ (negative-zero G) d u n
 
   abbrev pub vecGroup : ℕ → Group
   vecGroup d = record {

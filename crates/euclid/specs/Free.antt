@@ -52,7 +52,7 @@ module _ (p : ℕ) (pos : 0 < p) (m : Vec (Residue p) 2) where
       by-degree (suc (suc e)) w h = let l : suc (suc e) < 2 = h .below in absurd (omega arith)
 
 -- z² + 1
-abbrev pub tower-7 : Tower 7 (lit< tt) (2 ∷ []) 1
+abbrev pub tower-7 : Tower 7 (2 ∷ []) 1
 tower-7 = (tt, (toZ 7 (lit< tt) 1, (toZ 7 (lit< tt) 0, tt)))
 
 pub free-7 : Free 7 (lit< tt) (2 ∷ []) 1 tower-7

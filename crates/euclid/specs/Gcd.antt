@@ -5,7 +5,7 @@
 -- make, start      == to make monic; the sequence on two that are made
 -- gcd-with         == the whole of it, with something carried;  gcd == with nothing carried
 -- Gcd R a b g      == demand 3: g is monic, zero exactly when a and b are, a polynomial divides g precisely when it divides a and b
--- gcd-ok           == the answer is such a g, or something shown that is right, and never number 11
+-- gcd-with-ok      == the answer is such a g, and a combination of a and b; or something shown that is right; and never number 11
 use mathlib.Core.Path.{_≡_, refl, ap, sym, _∙_}
 use mathlib.Core.Logic.{_↔_}
 use mathlib.Core.Bool.{Bool, true, false, _&&_, false≢true}
@@ -47,8 +47,6 @@ module _ (R : CRing) where
     -- "a polynomial over that tower divides it precisely when it divides both a and b"
     pub divisors : (h : P R) → Dvd (PolyRing R) h (val g) ↔ (Dvd (PolyRing R) h a × Dvd (PolyRing R) h b)
     pub leading : Leads a b g
-    -- and it is a combination of a and b
-    pub combination : Comb R a b (val g)
 
 module _ (L : Level) (C : Carry (L .ring .Car)) where
   open CRing (L .ring) using (Car, 𝟘, 𝟙, _⊗_)
@@ -64,7 +62,7 @@ module _ (L : Level) (C : Carry (L .ring .Car)) where
   make-from x (lead e u c) = bind (L .inv c) (λ i. done (made e (scaleᵛ R e i u) (times i x)))
 
   unfoldable pub make : (k : ℕ) → Vec Car k → X → Answer (L .Shown) (Made Car X)
-  make k a x = make-from x (strip (L .test) 𝟘 k a)
+  make k a x = make-from x (strip (L .isZero) k a)
 
   -- D is the larger degree: at most D + 2 remainders
   unfoldable pub start : Made Car X → Made Car X → Answer (L .Shown) (Made Car X)
@@ -79,18 +77,18 @@ module _ (L : Level) (C : Carry (L .ring .Car)) where
   -- zero and a monic polynomial: its remainder of zero is zero
   start-nil : (x : X) (d : ℕ) (w : Vec Car d) (y : X) → start (nil x) (made d w y) ≡ done (made d w y)
   unfolding start divide
-  start-nil x d w y = ap (map wrap) (seq-null L C (suc d) 0 tt x d w y (strip-null (L .test) 𝟘 d (zeroᵛ 𝟘 d) (coef-zero 𝟘 d)))
+  start-nil x d w y = ap (map wrap) (seq-null L C (suc d) 0 tt x d w y (strip-null (L .zero-test) d (zeroᵛ 𝟘 d) (coef-zero 𝟘 d)))
 
   -- C10: "One zero: the other made monic, or the factor its leading coefficient shows."
   module _ (k : ℕ) (a : Vec Car k) (x : X) (l : ℕ) (b : Vec Car l) (y : X) where
-    pub gcd-right-zero : strip (L .test) 𝟘 l b ≡ null → gcd-with k a x l b y ≡ make k a x
+    pub gcd-right-zero : strip (L .isZero) l b ≡ null → gcd-with k a x l b y ≡ make k a x
     unfolding gcd-with make start
     gcd-right-zero e = ap (λ s. bind (make k a x) (λ A. bind (make-from y s) (λ B. start A B))) e ∙ bind-done (make k a x)
 
-    pub gcd-left-zero : (e : ℕ) (u : Vec Car e) (c : Car) → strip (L .test) 𝟘 k a ≡ null → strip (L .test) 𝟘 l b ≡ lead e u c → gcd-with k a x l b y ≡ make l b y
+    pub gcd-left-zero : (e : ℕ) (u : Vec Car e) (c : Car) → strip (L .isZero) k a ≡ null → strip (L .isZero) l b ≡ lead e u c → gcd-with k a x l b y ≡ make l b y
     unfolding gcd-with make
     gcd-left-zero e u c ha hb =
-        ap (λ s. bind (make-from x s) (λ A. bind (make-from y (strip (L .test) 𝟘 l b)) (λ B. start A B))) ha
+        ap (λ s. bind (make-from x s) (λ A. bind (make-from y (strip (L .isZero) l b)) (λ B. start A B))) ha
         ∙ ap (λ s. bind (make-from y s) (λ B. start (nil x) B)) hb ∙ either (L .inv c) ∙ sym (ap (make-from y) hb)
       where
         either : (m : Answer (L .Shown) Car) → bind (bind m (λ i. done (made e (scaleᵛ R e i u) (times i y)))) (λ B. start (nil x) B) ≡ bind m (λ i. done (made e (scaleᵛ R e i u) (times i y)))
@@ -135,9 +133,9 @@ module _ (L : Level) (C : Carry (L .ring .Car)) (G : Good L) where
 
   pub make-ok : (k : ℕ) (a : Vec (L .ring .Car) k) (x : C .X) → Holds (L .Right) (MadeOf k a x) (make L C k a x)
   unfolding make
-  make-ok k a x = go (strip (L .test) 𝟘 k a) (strip-ok (L .test) 𝟘 k a)
+  make-ok k a x = go (strip (L .isZero) k a) (strip-ok (L .zero-test) k a)
     where
-      go : (s : Shape Car) → Stripped (L .test) 𝟘 k a s → Holds (L .Right) (MadeOf k a x) (make-from L C x s)
+      go : (s : Shape Car) → Stripped 𝟘 k a s → Holds (L .Right) (MadeOf k a x) (make-from L C x s)
       go null h = (P-path S _ _ h, refl)
       go (lead e u c) h =
           holds-bind (L .Right) (λ i. i ⊗ c ≡ 𝟙) (MadeOf k a x) (L .inv c) _ (G c (h .1)) (λ i unit. record {
@@ -208,20 +206,24 @@ module _ (L : Level) (C : Carry (L .ring .Car)) (G : Good L) where
   leads k a x l b y (made i v x′) (made j u y′) (made d w z) m n e = λ t. not-zero k a x i v x′ m (t .0)
 
   pub gcd-with-ok : (k : ℕ) (a : Vec (L .ring .Car) k) (x : C .X) (l : ℕ) (b : Vec (L .ring .Car) l) (y : C .X)
-      → Holds (L .Right) (Gcd (L .ring) (pol (L .ring) k a) (pol (L .ring) l b)) (gcd-with L C k a x l b y)
+      → Holds (L .Right) (λ g. Gcd (L .ring) (pol (L .ring) k a) (pol (L .ring) l b) g × Comb (L .ring) (pol (L .ring) k a) (pol (L .ring) l b) (val (L .ring) g)) (gcd-with L C k a x l b y)
   unfolding gcd-with
   gcd-with-ok k a x l b y =
-      holds-bind (L .Right) (MadeOf k a x) (Gcd S (pol S k a) (pol S l b)) (make L C k a x) _ (make-ok k a x) (λ A m.
-      holds-bind (L .Right) (MadeOf l b y) (Gcd S (pol S k a) (pol S l b)) (make L C l b y) _ (make-ok l b y) (λ B n.
-      holds-weaken (L .Right) (Started A B) (Gcd S (pol S k a) (pol S l b)) (start L C A B) (start-ok A B) (λ g t. record {
-        divisors = λ h.
-            iff-trans (iff-sym (t .divisors h)) (
-              (λ c. (made-divisors k a x A m h .1 (c .left), made-divisors l b y B n h .1 (c .right))),
-              (λ c. record { left = made-divisors k a x A m h .0 (c .0); right = made-divisors l b y B n h .0 (c .1) }),
-            );
-        leading = leads k a x l b y A B g m n (t .nilness);
-        combination =
-            let u = multiple k a x A m in
+      holds-bind (L .Right) (MadeOf k a x) Both (make L C k a x) _ (make-ok k a x) (λ A m.
+      holds-bind (L .Right) (MadeOf l b y) Both (make L C l b y) _ (make-ok l b y) (λ B n.
+      holds-weaken (L .Right) (Started A B) Both (start L C A B) (start-ok A B) (λ g t. (
+        record {
+          divisors = λ h.
+              iff-trans (iff-sym (t .divisors h)) (
+                (λ c. (made-divisors k a x A m h .1 (c .left), made-divisors l b y B n h .1 (c .right))),
+                (λ c. record { left = made-divisors k a x A m h .0 (c .0); right = made-divisors l b y B n h .0 (c .1) }),
+              );
+          leading = leads k a x l b y A B g m n (t .nilness);
+        },
+        (let u = multiple k a x A m in
             let v = multiple l b y B n in
-            comb-scaled S (val S A) (val S B) (u .0) (v .0) (pol S k a) (pol S l b) (val S g) (u .1) (v .1) (t .combination);
-      })))
+            comb-scaled S (val S A) (val S B) (u .0) (v .0) (pol S k a) (pol S l b) (val S g) (u .1) (v .1) (t .combination)),
+      ))))
+    where
+      Both : Made Car X → Type 0
+      Both g = Gcd S (pol S k a) (pol S l b) g × Comb S (pol S k a) (pol S l b) (val S g)

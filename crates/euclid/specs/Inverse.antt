@@ -12,7 +12,7 @@ use native.Mathlib.Omega.{arith}
 use native.Mathlib.Nat.{le-refl}
 use Rattle.algebra.specs.Ring.{CRing, zero-⊗}
 use Rattle.algebra.specs.Solve.{_:-_, _:*_, _≐_, solve₅}
-use Rattle.algebra.specs.Vec.{Vec, Vec-test, coef, zeroᵛ, topped, coef-inj, coef-zero}
+use Rattle.algebra.specs.Vec.{Vec, allᵛ, zero-vec, coef, zeroᵛ, topped, coef-inj, coef-zero}
 use Rattle.algebra.specs.Shape.{Shape, null, lead, strip, Stripped, strip-ok}
 use Rattle.algebra.specs.Series.{const-*}
 use Rattle.algebra.specs.Poly.{constᴾ, poly}
@@ -60,12 +60,13 @@ module _ (L : Level) (d : ℕ) (m : Vec (L .ring .Car) d) where
       finish (r .degree) (r .low) (r .carried)))
 
   unfoldable pub inverse : Vec Car d → Answer (L .Shown ⊎ Mon Car) (Vec Car d)
-  inverse c = inverse-from (strip (L .test) 𝟘 d c)
+  inverse c = inverse-from (strip (L .isZero) d c)
 
   abbrev pub above : Level
   above = record {
     ring = Q;
-    test = Vec-test (L .test) d;
+    isZero = allᵛ (L .isZero) d;
+    zero-test = zero-vec (L .zero-test) d;
     Shown = L .Shown ⊎ Mon Car;
     Right = RightAbove R (L .Right) d m;
     inv = inverse;
@@ -151,7 +152,7 @@ module _ (L : Level) (d : ℕ) (m : Vec (L .ring .Car) d) where
       came-ok zero w x k = sym (k .carried-is) ∙ res-one w
       came-ok (suc j) w x k = let l : suc j ≤ e = k .low-degree in record { above = omega arith; below = omega arith; divides = k .factor }
 
-    inverse-lead : (c : Qᶜ) (e : ℕ) (u : Vec Car e) (k : Car) → Stripped (L .test) 𝟘 d c (lead e u k)
+    inverse-lead : (c : Qᶜ) (e : ℕ) (u : Vec Car e) (k : Car) → Stripped 𝟘 d c (lead e u k)
         → Holds (RightAbove R (L .Right) d m) (λ u. u *ᵠ c ≡ 1ᵠ) (inverse-from (lead e u k))
     inverse-lead c e u k h =
         holds-bind RA (λ i. i ⊗ k ≡ 𝟙) Inverse (B .inv k) _ (GB k (h .1)) (λ i unit.
@@ -184,9 +185,9 @@ module _ (L : Level) (d : ℕ) (m : Vec (L .ring .Car) d) where
 
     pub inverse-ok : (c : Vec (L .ring .Car) d) → ¬ (c ≡ 0ᵠ) → Holds (RightAbove R (L .Right) d m) (λ u. u *ᵠ c ≡ 1ᵠ) (inverse c)
     unfolding inverse
-    inverse-ok c nz = go (strip (L .test) 𝟘 d c) (strip-ok (L .test) 𝟘 d c)
+    inverse-ok c nz = go (strip (L .isZero) d c) (strip-ok (L .zero-test) d c)
       where
-        go : (s : Shape Car) → Stripped (L .test) 𝟘 d c s → Holds (RightAbove R (L .Right) d m) (λ u. u *ᵠ c ≡ 1ᵠ) (inverse-from s)
+        go : (s : Shape Car) → Stripped 𝟘 d c s → Holds (RightAbove R (L .Right) d m) (λ u. u *ᵠ c ≡ 1ᵠ) (inverse-from s)
         go null h = absurd (nz (coef-inj 𝟘 d c 0ᵠ (λ n. h n ∙ sym (coef-zero 𝟘 d n))))
         go (lead e u k) h = inverse-lead c e u k h
 

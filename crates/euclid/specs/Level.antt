@@ -1,7 +1,7 @@
--- What the sequences need of a level, any level: its ring, the test for equality, what may be shown there in place of an answer, when that is right,
+-- What the sequences need of a level, any level: its ring, the test for zero, what may be shown there in place of an answer, when that is right,
 -- and the partial inverse.
 --
--- Level           == these five
+-- Level           == these
 -- Good L          == what the inverse of a level promises: u with u c = 1, or something shown that is right, and never number 11
 -- Mon A           == a monic polynomial: its degree, and the coefficients under its leading 1
 -- Factor R d m f  == demand 3's factor: f is monic, of degree 1 to d - 1, and divides the monic polynomial of degree d with the coefficients m;
@@ -10,7 +10,8 @@
 use mathlib.Core.Path.{_≡_}
 use mathlib.Core.Logic.{_⊎_, inl, inr}
 use Prim.Native.Nat.{ℕ, _≤_, _<_, _∣_}
-use Rattle.algebra.specs.Test.{EqTest}
+use mathlib.Core.Bool.{Bool}
+use Rattle.algebra.specs.Test.{ZeroTest}
 use Rattle.algebra.specs.Ring.{CRing}
 use Rattle.algebra.specs.Vec.{Vec}
 use Rattle.algebra.specs.Divisor.{Dvd}
@@ -19,7 +20,8 @@ use Rattle.euclid.specs.Answer.{Answer, lift, Holds, holds-lift}
 
 pub record Level : Type 1 where
   pub ring : CRing
-  pub test : EqTest (ring .Car)
+  pub isZero : ring .Car → Bool
+  pub zero-test : ZeroTest (ring .𝟘) isZero
   pub Shown : Type 0
   pub Right : Shown → Type 0
   pub inv : ring .Car → Answer Shown (ring .Car)
@@ -51,7 +53,8 @@ module _ (L : Level) (d : ℕ) (m : Vec (L .ring .Car) d) where
   abbrev pub beneath : Level
   beneath = record {
     ring = L .ring;
-    test = L .test;
+    isZero = L .isZero;
+    zero-test = L .zero-test;
     Shown = L .Shown ⊎ Mon (L .ring .Car);
     Right = RightAbove (L .ring) (L .Right) d m;
     inv = λ c. lift inl (L .inv c);

@@ -9,3 +9,4 @@ pub mod Demand
 pub mod Towers
 pub mod Free
 pub mod Figures
+pub mod Steps

@@ -41,11 +41,12 @@ module _ (L : Level) (C : Carry (L .ring .Car)) where
   abbrev R : CRing
   R = L .ring
 
+  -- the rest of a sequence, from any pair
   abbrev Rest : Type 0
   Rest = (n : ℕ) → Vec Car n → X → (d : ℕ) → Vec Car d → X → Answer Shown (Ended Car X)
 
   -- the remainder is zero, and the divisor is the answer; or it is made monic, and on with it
-  abbrev pub turn : ((n : ℕ) → Vec Car n → X → (d : ℕ) → Vec Car d → X → Answer Shown (Ended Car X)) → (d : ℕ) → Vec Car d → X → X → Shape Car → Answer Shown (Ended Car X)
+  abbrev pub turn : Rest → (d : ℕ) → Vec Car d → X → X → Shape Car → Answer Shown (Ended Car X)
   turn again d w y z null = done (ended d w y)
   turn again d w y z (lead e u c) = bind (inv c) (λ i. again (suc d) (topped d w 𝟙) y e (scaleᵛ R e i u) (times i z))
 
@@ -54,10 +55,10 @@ module _ (L : Level) (C : Carry (L .ring .Car)) where
   seq zero n v x d w y = long
   seq (suc k) n v x d w y =
       let t : Vec Car n × Vec Car d = divide R d w n v in
-      turn (seq k) d w y (less x n (t .0) y) (strip (L .test) 𝟘 d (t .1))
+      turn (seq k) d w y (less x n (t .0) y) (strip (L .isZero) d (t .1))
 
   seq-suc : (k n : ℕ) (v : Vec Car n) (x : X) (d : ℕ) (w : Vec Car d) (y : X)
-      → seq (suc k) n v x d w y ≡ turn (seq k) d w y (less x n (quotient R d w n v) y) (strip (L .test) 𝟘 d (remainder R d w n v))
+      → seq (suc k) n v x d w y ≡ turn (seq k) d w y (less x n (quotient R d w n v) y) (strip (L .isZero) d (remainder R d w n v))
   unfolding seq
   seq-suc k n v x d w y = refl
 
@@ -78,7 +79,7 @@ module _ (L : Level) (C : Carry (L .ring .Car)) where
     turn-ok : (again : Rest) (k : ℕ)
         → ((n : ℕ) (v : Vec Car n) (x : X) (d : ℕ) (w : Vec Car d) (y : X) → d < k → J n v x d w y → Holds Right Post (again n v x d w y))
         → (n : ℕ) (v : Vec Car n) (x : X) (d : ℕ) (w : Vec Car d) (y : X) → d < suc k → J n v x d w y
-        → (s : Shape Car) → Stripped (L .test) 𝟘 d (remainder R d w n v) s
+        → (s : Shape Car) → Stripped 𝟘 d (remainder R d w n v) s
         → Holds Right Post (turn again d w y (less x n (quotient R d w n v) y) s)
     turn-ok again k ih n v x d w y l j null h = last n v x d w y j h
     turn-ok again k ih n v x d w y l j (lead e u c) h =
@@ -89,15 +90,15 @@ module _ (L : Level) (C : Carry (L .ring .Car)) where
     pub seq-ok : (k n : ℕ) (v : Vec Car n) (x : X) (d : ℕ) (w : Vec Car d) (y : X) → d < k → J n v x d w y → Holds Right Post (seq k n v x d w y)
     seq-ok zero n v x d w y l j = absurd (omega arith)
     seq-ok (suc k) n v x d w y l j =
-        rw (seq-suc k n v x d w y) (turn-ok (seq k) k (seq-ok k) n v x d w y l j (strip (L .test) 𝟘 d (remainder R d w n v)) (strip-ok (L .test) 𝟘 d (remainder R d w n v)))
+        rw (seq-suc k n v x d w y) (turn-ok (seq k) k (seq-ok k) n v x d w y l j (strip (L .isZero) d (remainder R d w n v)) (strip-ok (L .zero-test) d (remainder R d w n v)))
 
   -- ---- one equation for each way in which a turn can go
   module _ (k n : ℕ) (v : Vec Car n) (x : X) (d : ℕ) (w : Vec Car d) (y : X) where
     -- the remainder is zero
-    pub seq-null : strip (L .test) 𝟘 d (remainder R d w n v) ≡ null → seq (suc k) n v x d w y ≡ done (ended d w y)
+    pub seq-null : strip (L .isZero) d (remainder R d w n v) ≡ null → seq (suc k) n v x d w y ≡ done (ended d w y)
     seq-null e = seq-suc k n v x d w y ∙ ap (turn (seq k) d w y (less x n (quotient R d w n v) y)) e
 
-    module _ (e : ℕ) (u : Vec Car e) (c : Car) (h : strip (L .test) 𝟘 d (remainder R d w n v) ≡ lead e u c) where
+    module _ (e : ℕ) (u : Vec Car e) (c : Car) (h : strip (L .isZero) d (remainder R d w n v) ≡ lead e u c) where
       on : Car → Answer Shown (Ended Car X)
       on i = seq k (suc d) (topped d w 𝟙) y e (scaleᵛ R e i u) (times i (less x n (quotient R d w n v) y))
 
@@ -121,7 +122,7 @@ module _ (L : Level) (C : Carry (L .ring .Car)) where
   bind-same (shown e) f g h = refl
   bind-same long f g h = refl
 
-  turn-same : (d : ℕ) (w : Vec Car d) (v : Vec Car d) (y z : X) (s : Shape Car) → Stripped (L .test) 𝟘 d v s → (again again′ : Rest)
+  turn-same : (d : ℕ) (w : Vec Car d) (v : Vec Car d) (y z : X) (s : Shape Car) → Stripped 𝟘 d v s → (again again′ : Rest)
       → ((n : ℕ) (v : Vec Car n) (x : X) (e : ℕ) (u : Vec Car e) (y : X) → e < d → again n v x e u y ≡ again′ n v x e u y)
       → turn again d w y z s ≡ turn again′ d w y z s
   turn-same d w v y z null st again again′ h = refl
@@ -133,5 +134,5 @@ module _ (L : Level) (C : Carry (L .ring .Car)) where
   seq-fuel (suc k) zero n v x d w y l l′ = absurd (omega arith)
   seq-fuel (suc k) (suc j) n v x d w y l l′ =
       rw (seq-suc k n v x d w y, seq-suc j n v x d w y)
-      (turn-same d w (remainder R d w n v) y (less x n (quotient R d w n v) y) (strip (L .test) 𝟘 d (remainder R d w n v)) (strip-ok (L .test) 𝟘 d (remainder R d w n v)) (seq k) (seq j)
+      (turn-same d w (remainder R d w n v) y (less x n (quotient R d w n v) y) (strip (L .isZero) d (remainder R d w n v)) (strip-ok (L .zero-test) d (remainder R d w n v)) (seq k) (seq j)
       (λ n v x e u y small. seq-fuel k j n v x e u y (omega arith) (omega arith)))

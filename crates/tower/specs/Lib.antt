@@ -1,2 +1,12 @@
 pub mod Levels
 pub mod Writing
+pub mod Form
+pub mod Lists
+pub mod Coding
+pub mod Unique
+pub mod Heads
+pub mod TowerUnique
+pub mod Work
+pub mod Limits
+pub mod Ready
+pub mod Figures

@@ -1,0 +1,5 @@
+pub mod Laws
+pub mod Rows
+pub mod Moduli
+pub mod Lengths
+pub mod Working

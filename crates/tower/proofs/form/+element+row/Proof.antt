@@ -1,0 +1,194 @@
+use Rattle.algebra.specs.Test.{allTo}
+use Rattle.tower.proofs.Laws.{row as row-fits}
+use Rattle.tower.proofs.Rows.{coefficientAt, bad-degree, finish, bad-element, bad-place, next, size-pos, element-low, element-up, size-down}
+use Rattle.tower.specs.Writing.{size}
+use borrow.Author.Tests.{not-true, not-false}
+use lib.ListN.{getD}
+use mathlib.Core.Bool.{true}
+use Prim.Native.Nat.{_+_, _-_, _*_, _≤_}
+use mathlib.Core.Path.{_≡_, refl, sym, ap, _∙_}
+use native.Mathlib.Omega.{arith}
+use Prim.Native.Nat.{ℕ, _<_}
+use borrow.Fn.Kinds.{In}
+use borrow.Fn.PlainCycle.{Measures, is, falls, and}
+use Rattle.tower.proofs.form.element.Reads as element
+use Rattle.tower.proofs.form.element.Kinds as element-kinds
+use Rattle.tower.proofs.form.+element+row.Lts-element as element-lts
+use Rattle.tower.proofs.form.row.Reads as row
+use Rattle.tower.proofs.form.row.Kinds as row-kinds
+use Rattle.tower.proofs.form.+element+row.Lts-row as row-lts
+use Rattle.tower.proofs.words.count_at.Reads as count-at-reads
+use Rattle.tower.proofs.sizes.degree_at.Reads as degree-at-reads
+use Rattle.tower.proofs.form.degree_ok.Reads as degree-ok-reads
+use Rattle.tower.proofs.form.place.Reads as place-reads
+use Rattle.tower.proofs.form.residue.Reads as residue-reads
+use Rattle.tower.proofs.sizes.size_at.Reads as size-at-reads
+use Rattle.tower.proofs.form.slot.Reads as slot-reads
+use Rattle.tower.proofs.form.zero_head.Reads as zero-head-reads
+use Rattle.tower.proofs.form.+element+row.{statement}
+use Rattle.tower.proofs.form.+element+row.Tie.{close}
+
+abbrev μ-element : Measures 1 element-kinds.ps ℕ
+μ-element κs a = 2 * a .0
+
+abbrev μ-row : Measures 1 row-kinds.ps ℕ
+μ-row κs a = 2 * a .0 + 1
+
+abbrev element-at : ℕ → In 1 element-kinds.ps
+element-at t = and 1 element-kinds.ps (is 1 element-kinds.ps μ-element t) element.Pre
+
+abbrev element-below : ℕ → In 1 element-kinds.ps
+element-below t = and 1 element-kinds.ps (falls 1 element-kinds.ps _<_ μ-element t) element.Pre
+
+abbrev row-at : ℕ → In 1 row-kinds.ps
+row-at t = and 1 row-kinds.ps (is 1 row-kinds.ps μ-row t) row.Pre
+
+abbrev row-below : ℕ → In 1 row-kinds.ps
+row-below t = and 1 row-kinds.ps (falls 1 row-kinds.ps _<_ μ-row t) row.Pre
+
+abbrev cs-element : ℕ → element-lts.Claims
+cs-element t = (
+  residue-reads.Asked,
+  residue-reads.Learnt,
+  degree-at-reads.Asked,
+  degree-at-reads.Learnt,
+  row-below t,
+  row.Post,
+)
+
+abbrev cs-row : ℕ → row-lts.Claims
+cs-row t = (
+  degree-ok-reads.Asked,
+  degree-ok-reads.Learnt,
+  count-at-reads.Asked,
+  count-at-reads.Learnt,
+  size-at-reads.Asked,
+  size-at-reads.Learnt,
+  slot-reads.Asked,
+  slot-reads.Learnt,
+  element-below t,
+  element.Post,
+  zero-head-reads.Asked,
+  zero-head-reads.Learnt,
+  place-reads.Asked,
+  place-reads.Learnt,
+)
+
+element-residue-requires : (t : ℕ) → element-lts.Need-residue-requires (cs-element t) (element-at t) element.Post
+element-residue-requires t c κs = let s = c .before in let h = s .pre .1 in omega (arith, h .inside, size-pos (s .args .d) (s .args .i))
+
+element-returns : (t : ℕ) → element-lts.Need-returns (cs-element t) (element-at t) element.Post
+element-returns t c = let s = c .before .before in let h = s .pre .1 in element-low (s .args .p) (s .args .d) (s .args .x .now) (s .args .a) (s .args .i) (c .before .if1 .taken) (h .inside) (c .residue .result) (c .residue .ensures)
+
+element-sub-row : (t : ℕ) → element-lts.Need-sub-row (cs-element t) (element-at t) element.Post
+element-sub-row t c = omega arith
+
+element-sub-degree-at : (t : ℕ) → element-lts.Need-sub-degree-at (cs-element t) (element-at t) element.Post
+element-sub-degree-at t c = omega arith
+
+element-degree-at-requires : (t : ℕ) → element-lts.Need-degree-at-requires (cs-element t) (element-at t) element.Post
+element-degree-at-requires t c κs = let s = c .before in let h = s .pre .1 in omega (arith, h .low)
+
+element-row-requires : (t : ℕ) → element-lts.Need-row-requires (cs-element t) (element-at t) element.Post
+element-row-requires t c κs = let s = c .before .before in let h = s .pre .1 in let e = size-down (s .args .d) (s .args .i) (c .before .if1 .left) in let m : c .degree-at .result * size (s .args .d) (s .args .i - 1) ≡ getD (s .args .d) (s .args .i - 1) 0 * size (s .args .d) (s .args .i - 1) = ap (λ (x : ℕ). x * size (s .args .d) (s .args .i - 1)) (c .degree-at .ensures) in (omega (arith, s .pre .0), record { low = omega (arith, h .low); sized = h .sized; inside = omega (arith, h .inside, e, m) })
+
+element-returns-2 : (t : ℕ) → element-lts.Need-returns-2 (cs-element t) (element-at t) element.Post
+element-returns-2 t c = let s = c .before .before .before in let h = s .pre .1 in element-up (s .args .p) (s .args .d) (s .args .x .now) (s .args .a) (s .args .i) (c .before .before .if1 .left) (c .before .degree-at .result) (c .before .degree-at .ensures) (c .row .result) (c .row .ensures)
+
+abbrev row-Inv-loop : row-lts.InvT-loop
+row-Inv-loop i n d z p x a c s k₀ k = (k ≤ n) × (allTo k (coefficientAt p d i x a) ≡ true)
+
+abbrev row-μ-loop : row-lts.MeasureT-loop
+row-μ-loop i n d z p x a c s k₀ k = n - k
+
+row-degree-ok-requires : (t : ℕ) → row-lts.Need-degree-ok-requires (cs-row t) (row-at t) row.Post row-Inv-loop row-μ-loop
+row-degree-ok-requires t c κs = let s = c in let h = s .pre .1 in omega (arith, h .inside)
+
+row-returns : (t : ℕ) → row-lts.Need-returns (cs-row t) (row-at t) row.Post row-Inv-loop row-μ-loop
+row-returns t c = let s = c .before .before in let h = s .pre .1 in bad-degree (s .args .p) (s .args .d) (s .args .i) (s .args .n) (s .args .x .now) (s .args .a) (h .inside) (sym (c .before .degree-ok .ensures) ∙ not-true _ (c .if1 .taken))
+
+row-count-at-requires : (t : ℕ) → row-lts.Need-count-at-requires (cs-row t) (row-at t) row.Post row-Inv-loop row-μ-loop
+row-count-at-requires t c κs = let s = c .before .before in let h = s .pre .1 in omega (arith, h .inside)
+
+row-size-at-requires : (t : ℕ) → row-lts.Need-size-at-requires (cs-row t) (row-at t) row.Post row-Inv-loop row-μ-loop
+row-size-at-requires t c κs = let s = c .before .before .before in let h = s .pre .1 in omega (arith, h .low)
+
+row-loop-holds : (t : ℕ) → row-lts.Need-loop-holds (cs-row t) (row-at t) row.Post row-Inv-loop row-μ-loop
+row-loop-holds t c = (omega arith, refl)
+
+row-slot-requires : (t : ℕ) → row-lts.Need-slot-requires (cs-row t) (row-at t) row.Post row-Inv-loop row-μ-loop
+row-slot-requires t c κs = let s = c .before .before .before .before .before .before in let h = s .pre .1 in let es : c .before .before .size-at .result ≡ size (s .args .d) (s .args .i) = c .before .before .size-at .ensures ∙ h .sized .at (s .args .i) (h .low) in let k = c .before .loop .k in let q = row-fits k (s .args .n) (size (s .args .d) (s .args .i)) (c .loop-test .taken) in let ek : k * c .before .before .size-at .result ≡ k * size (s .args .d) (s .args .i) = ap (λ (m : ℕ). k * m) es in omega (arith, h .inside, q, ek, s .good)
+
+row-element-requires : (t : ℕ) → row-lts.Need-element-requires (cs-row t) (row-at t) row.Post row-Inv-loop row-μ-loop
+row-element-requires t c κs = let s = c .before .before .before .before .before .before .before in let h = s .pre .1 in let es : c .before .before .before .size-at .result ≡ size (s .args .d) (s .args .i) = c .before .before .before .size-at .ensures ∙ h .sized .at (s .args .i) (h .low) in let k = c .before .before .loop .k in let q = row-fits k (s .args .n) (size (s .args .d) (s .args .i)) (c .before .loop-test .taken) in let ek : k * c .before .before .before .size-at .result ≡ k * size (s .args .d) (s .args .i) = ap (λ (m : ℕ). k * m) es in (omega (arith, s .pre .0), record { low = h .low; sized = h .sized; inside = omega (arith, h .inside, q, ek, c .slot .ensures) })
+
+row-returns-2 : (t : ℕ) → row-lts.Need-returns-2 (cs-row t) (row-at t) row.Post row-Inv-loop row-μ-loop
+row-returns-2 t c = let s = c .before .before .before .before .before .before .before .before .before in let h = s .pre .1 in let es : c .before .before .before .before .before .size-at .result ≡ size (s .args .d) (s .args .i) = c .before .before .before .before .before .size-at .ensures ∙ h .sized .at (s .args .i) (h .low) in let k = c .before .before .before .before .loop .k in let q = row-fits k (s .args .n) (size (s .args .d) (s .args .i)) (c .before .before .before .loop-test .taken) in let ek : k * c .before .before .before .before .before .size-at .result ≡ k * size (s .args .d) (s .args .i) = ap (λ (m : ℕ). k * m) es in bad-element (s .args .p) (s .args .d) (s .args .i) (s .args .n) (s .args .x .now) (s .args .a) (h .inside) (sym (c .before .before .before .before .before .before .before .before .degree-ok .ensures) ∙ not-false _ (c .before .before .before .before .before .before .before .if1 .left)) k (c .before .before .slot .result) (c .before .before .before .before .before .before .count-at .result) (c .before .before .before .loop-test .taken) (c .before .before .slot .ensures ∙ ap (λ (m : ℕ). s .args .a + 1 + m) ek) (c .before .before .before .before .before .before .count-at .ensures) (c .before .element .result) (c .before .element .ensures) (not-true _ (c .if2 .taken))
+
+row-zero-head-requires : (t : ℕ) → row-lts.Need-zero-head-requires (cs-row t) (row-at t) row.Post row-Inv-loop row-μ-loop
+row-zero-head-requires t c κs = let s = c .before .before .before .before .before .before .before .before .before in let h = s .pre .1 in let es : c .before .before .before .before .before .size-at .result ≡ size (s .args .d) (s .args .i) = c .before .before .before .before .before .size-at .ensures ∙ h .sized .at (s .args .i) (h .low) in let k = c .before .before .before .before .loop .k in let q = row-fits k (s .args .n) (size (s .args .d) (s .args .i)) (c .before .before .before .loop-test .taken) in let ek : k * c .before .before .before .before .before .size-at .result ≡ k * size (s .args .d) (s .args .i) = ap (λ (m : ℕ). k * m) es in omega (arith, h .inside, q, ek, c .before .before .slot .ensures, size-pos (s .args .d) (s .args .i))
+
+row-place-requires : (t : ℕ) → row-lts.Need-place-requires (cs-row t) (row-at t) row.Post row-Inv-loop row-μ-loop
+row-place-requires t c κs = let s = c .before .before .before .before .before .before .before .before .before .before in let h = s .pre .1 in let k = c .before .before .before .before .before .loop .k in let q = row-fits k (s .args .n) (size (s .args .d) (s .args .i)) (c .before .before .before .before .loop-test .taken) in omega (arith, h .inside, q, s .good, size-pos (s .args .d) (s .args .i))
+
+row-returns-3 : (t : ℕ) → row-lts.Need-returns-3 (cs-row t) (row-at t) row.Post row-Inv-loop row-μ-loop
+row-returns-3 t c = let s = c .before .before .before .before .before .before .before .before .before .before .before .before in let h = s .pre .1 in let es : c .before .before .before .before .before .before .before .before .size-at .result ≡ size (s .args .d) (s .args .i) = c .before .before .before .before .before .before .before .before .size-at .ensures ∙ h .sized .at (s .args .i) (h .low) in let k = c .before .before .before .before .before .before .before .loop .k in let q = row-fits k (s .args .n) (size (s .args .d) (s .args .i)) (c .before .before .before .before .before .before .loop-test .taken) in let ek : k * c .before .before .before .before .before .before .before .before .size-at .result ≡ k * size (s .args .d) (s .args .i) = ap (λ (m : ℕ). k * m) es in bad-place (s .args .p) (s .args .d) (s .args .i) (s .args .n) (s .args .x .now) (s .args .a) (h .inside) (sym (c .before .before .before .before .before .before .before .before .before .before .before .degree-ok .ensures) ∙ not-false _ (c .before .before .before .before .before .before .before .before .before .before .if1 .left)) k (c .before .before .before .before .before .slot .result) (c .before .before .before .before .before .before .before .before .before .count-at .result) (c .before .before .before .before .before .before .loop-test .taken) (c .before .before .before .before .before .slot .ensures ∙ ap (λ (m : ℕ). s .args .a + 1 + m) ek) (c .before .before .before .before .before .before .before .before .before .count-at .ensures) (size-pos (s .args .d) (s .args .i)) (c .before .before .zero-head .result) (c .before .before .zero-head .ensures) (c .before .place .result) (c .before .place .ensures) (not-true _ (c .if3 .taken))
+
+row-add-k : (t : ℕ) → row-lts.Need-add-k (cs-row t) (row-at t) row.Post row-Inv-loop row-μ-loop
+row-add-k t c = omega arith
+
+row-loop-less : (t : ℕ) → row-lts.Need-loop-less (cs-row t) (row-at t) row.Post row-Inv-loop row-μ-loop
+row-loop-less t c = omega arith
+
+row-loop-again : (t : ℕ) → row-lts.Need-loop-again (cs-row t) (row-at t) row.Post row-Inv-loop row-μ-loop
+row-loop-again t c = let s = c .before .before .before .before .before .before .before .before .before .before .before .before in let h = s .pre .1 in let es : c .before .before .before .before .before .before .before .before .size-at .result ≡ size (s .args .d) (s .args .i) = c .before .before .before .before .before .before .before .before .size-at .ensures ∙ h .sized .at (s .args .i) (h .low) in let k = c .before .before .before .before .before .before .before .loop .k in let q = row-fits k (s .args .n) (size (s .args .d) (s .args .i)) (c .before .before .before .before .before .before .loop-test .taken) in let ek : k * c .before .before .before .before .before .before .before .before .size-at .result ≡ k * size (s .args .d) (s .args .i) = ap (λ (m : ℕ). k * m) es in (omega arith, next (s .args .p) (s .args .d) (s .args .i) (s .args .n) (s .args .x .now) (s .args .a) (h .inside) (sym (c .before .before .before .before .before .before .before .before .before .before .before .degree-ok .ensures) ∙ not-false _ (c .before .before .before .before .before .before .before .before .before .before .if1 .left)) k (c .before .before .before .before .before .slot .result) (c .before .before .before .before .before .before .before .before .before .count-at .result) (c .before .before .before .before .before .before .loop-test .taken) (c .before .before .before .before .before .slot .ensures ∙ ap (λ (m : ℕ). s .args .a + 1 + m) ek) (c .before .before .before .before .before .before .before .before .before .count-at .ensures) (size-pos (s .args .d) (s .args .i)) (c .before .before .zero-head .result) (c .before .before .zero-head .ensures) (c .before .before .before .before .element .result) (c .before .place .result) (c .before .before .before .before .element .ensures) (not-false _ (c .before .before .before .if2 .left)) (c .before .place .ensures) (not-false _ (c .if3 .left)) (c .before .before .before .before .before .before .before .loop .inv .1))
+
+row-returns-4 : (t : ℕ) → row-lts.Need-returns-4 (cs-row t) (row-at t) row.Post row-Inv-loop row-μ-loop
+row-returns-4 t c = let s = c .before .before .before .before .before .before in let h = s .pre .1 in let e : c .before .loop .k ≡ s .args .n = omega arith in finish (s .args .p) (s .args .d) (s .args .i) (s .args .n) (s .args .x .now) (s .args .a) (h .inside) (sym (c .before .before .before .before .before .degree-ok .ensures) ∙ not-false _ (c .before .before .before .before .if1 .left)) (rw e at (c .before .loop .inv .1))
+
+pub +element+row-spec : {M : Type 1} → statement M
++element+row-spec = close μ-element μ-row (λ t. element-lts.spec (cs-element t)
+    (element-at t)
+    element.Post
+    (element-residue-requires t)
+    (element-returns t)
+    (element-sub-row t)
+    (element-sub-degree-at t)
+    (element-degree-at-requires t)
+    (element-row-requires t)
+    (element-returns-2 t))
+    λ t. row-lts.spec (
+      degree-ok-reads.Asked,
+      degree-ok-reads.Learnt,
+      count-at-reads.Asked,
+      count-at-reads.Learnt,
+      size-at-reads.Asked,
+      size-at-reads.Learnt,
+      slot-reads.Asked,
+      slot-reads.Learnt,
+      element-below t,
+      element.Post,
+      zero-head-reads.Asked,
+      zero-head-reads.Learnt,
+      place-reads.Asked,
+      place-reads.Learnt,
+    )
+    (row-at t)
+    row.Post
+    row-Inv-loop
+    row-μ-loop
+    (row-degree-ok-requires t)
+    (row-returns t)
+    (row-count-at-requires t)
+    (row-size-at-requires t)
+    (row-loop-holds t)
+    (row-slot-requires t)
+    (row-element-requires t)
+    (row-returns-2 t)
+    (row-zero-head-requires t)
+    (row-place-requires t)
+    (row-returns-3 t)
+    (row-add-k t)
+    (row-loop-less t)
+    (row-loop-again t)
+    (row-returns-4 t)

@@ -1,0 +1,21 @@
+use Rattle.tower.proofs.Moduli.{degree-number}
+use lib.ListN.{getD}
+use lib.IntN.{pos}
+use borrow.Author.Needs.{needs}
+use Rattle.tower.proofs.form.degree_is.Statement.{statement}
+use Rattle.tower.proofs.form.degree_is.Tie as tie
+use Rattle.tower.proofs.form.degree_is.Reads as reads
+use Rattle.tower.proofs.form.degree_is.Lts as lts
+use Rattle.tower.proofs.words.count_at.Reads as count-at-reads
+
+count-at-requires : tie.Need-count-at-requires
+count-at-requires c κs = search needs
+
+add-result : tie.Need-add-result
+add-result c = search needs
+
+returns : tie.Need-returns
+returns c = degree-number (getD (c .before .args .x .now) (c .before .args .a) (pos 0)) (c .before .args .n) (c .count-at .result) (c .count-at .ensures)
+
+pub degree-is-spec : {M : Type 1} → statement M
+degree-is-spec = tie.close (tie.spec count-at-requires add-result returns)

@@ -1,0 +1,28 @@
+use Rattle.tower.proofs.Laws.{degree-low, degree-high}
+use Rattle.tower.specs.Form.{degreeOk}
+use Rattle.tower.specs.Lists.{countOf}
+use mir.ValLaws.{toZ-ofZ}
+use mir.Syntax.{w64}
+use mathlib.Core.Path.{ap, _∙_}
+use borrow.Author.Needs.{needs}
+use Rattle.tower.proofs.form.degree_ok.Statement.{statement}
+use Rattle.tower.proofs.form.degree_ok.Tie as tie
+use Rattle.tower.proofs.form.degree_ok.Reads as reads
+use Rattle.tower.proofs.form.degree_ok.Lts as lts
+use Rattle.tower.proofs.words.count.Reads as count-reads
+use Rattle.tower.proofs.words.word_at.Reads as word-at-reads
+
+word-at-requires : tie.Need-word-at-requires
+word-at-requires c κs = search needs
+
+returns : tie.Need-returns
+returns c = degree-low (c .before .word-at .result) (record { sfits = c .before .word-at .ok }) (c .before .before .args .n) (c .if1 .taken) ∙ ap (degreeOk (c .before .before .args .n)) (c .before .word-at .ensures)
+
+count-requires : tie.Need-count-requires
+count-requires c κs = search needs
+
+returns-2 : tie.Need-returns-2
+returns-2 c = degree-high (c .before .before .word-at .result) (record { sfits = c .before .before .word-at .ok }) (c .before .before .before .args .n) (c .count .result) (c .count .ensures ∙ ap countOf (toZ-ofZ w64 (c .before .before .word-at .result) (record { sfits = c .before .before .word-at .ok }))) (c .before .if1 .left) ∙ ap (degreeOk (c .before .before .before .args .n)) (c .before .before .word-at .ensures)
+
+pub degree-ok-spec : {M : Type 1} → statement M
+degree-ok-spec = tie.close (tie.spec word-at-requires returns count-requires returns-2)

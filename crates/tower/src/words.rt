@@ -1,0 +1,52 @@
+// Words as numbers. A degree word is -1 for zero; its count is one more than the degree.
+ghost use mathlib.Core.Path.{_≡_};
+ghost use Prim.Native.Nat.{_<_};
+ghost use lib.IntN.{pos};
+ghost use lib.ListN.{length, getD};
+ghost use Rattle.residue.specs.Word.{num};
+ghost use Rattle.tower.specs.Form.{eqZ};
+ghost use Rattle.tower.specs.Lists.{countOf};
+
+pub fn word_at(x: &[i64], a: usize) -> i64
+    requires { ⌜ a < length (now x) ⌝ }
+    ensures { λ r. ⌜ r ≡ getD (now (x .entry)) a (pos 0) ⌝ }
+{
+    x[a]
+}
+
+pub fn nat(g: i64) -> usize
+    ensures { λ r. ⌜ r ≡ num g ⌝ }
+{
+    if g < 0 {
+        return 0;
+    }
+    g as usize
+}
+
+pub fn same_word(g: i64, h: i64) -> bool
+    ensures { λ r. ⌜ r ≡ eqZ g h ⌝ }
+{
+    g == h
+}
+
+pub fn count(g: i64) -> usize
+    ensures { λ r. ⌜ r ≡ countOf g ⌝ }
+{
+    if g < 0 {
+        return 0;
+    }
+    (g as usize) + 1
+}
+
+pub fn count_at(x: &[i64], a: usize) -> usize
+    requires { ⌜ a < length (now x) ⌝ }
+    ensures { λ r. ⌜ r ≡ countOf (getD (now (x .entry)) a (pos 0)) ⌝ }
+{
+    count(word_at(x, a))
+}
+
+pub fn as_p(p: i64) -> u64
+    ensures { λ r. ⌜ r ≡ num p ⌝ }
+{
+    nat(p) as u64
+}
