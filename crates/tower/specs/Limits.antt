@@ -1,18 +1,19 @@
 -- Document 01's limits, as tests on numbers that nobody has looked at. They stand here and nowhere else: nothing below them knows 2,147,483,647, 2 to 64,
 -- 2,048, 256 or 65,536.
 --
--- pOk                       == number 1
+-- pOk                       == number 1;  p-two, p-positive, p-narrow == what it says of p
 -- levelsOk, degreesOk, sizeOk == number 2;  degreesOf == the four degrees as numbers
 -- slotLength, slotCount     == number 4 for a slot, and its coefficients
 -- workDegree                == number 5 for the work sizes
-use Prim.Native.Nat.{ℕ, _-_, _/_, _%_}
+use Prim.Native.Nat.{ℕ, _-_, _/_, _%_, _^_, _<_, _≤_}
+use native.Mathlib.Omega.{arith}
 use mathlib.Core.Bool.{Bool, true, false, _&&_}
 use mathlib.Core.List.{List, [], _∷_}
 use lib.IntN.{ℤ, pos, negsuc}
 use lib.Signed.{leZ}
-use lib.Dec.{ltb, leb, eqb}
+use lib.Dec.{T, ltb, leb, leb→le, eqb}
 use lib.ListN.{getD}
-use Rattle.algebra.specs.Test.{allTo}
+use Rattle.algebra.specs.Test.{allTo, both-l, both-r}
 use Rattle.tower.specs.Writing.{size}
 use Rattle.residue.specs.Word.{num}
 use Rattle.tower.specs.Form.{eqZ}
@@ -20,6 +21,15 @@ use Rattle.tower.specs.Form.{eqZ}
 -- "The modulus p is a number from 2 to 2,147,483,647."
 abbrev pub pOk : ℤ → Bool
 pOk p = leZ (pos 2) p && leZ p (pos 2147483647)
+
+pub p-two : (p : ℤ) → T (pOk p) → 2 ≤ num p
+p-two (pos m) h = leb→le 2 m (both-l (leb 2 m) _ h)
+
+pub p-positive : (p : ℤ) → T (pOk p) → 0 < num p
+p-positive p h = omega (arith, p-two p h)
+
+pub p-narrow : (p : ℤ) → T (pOk p) → num p < 2 ^ 31
+p-narrow (pos m) h = omega (arith, leb→le m 2147483647 (both-r (leb 2 m) _ h))
 
 -- "A tower has N levels, 0 to 4."
 abbrev pub levelsOk : ℤ → Bool

@@ -1,0 +1,5 @@
+pub mod Range
+pub mod Order
+pub mod Working
+pub mod Shapes
+pub mod Quotients

@@ -1,0 +1,110 @@
+use mir.Syntax.{w64}
+use mir.Val.{toZ, ofZ}
+use Rattle.kernel.proofs.Order.{slot-first, slot-short, slot-end}
+use Rattle.kernel.proofs.Shapes.{of-words, tower-zero, size-found, slot-found}
+use Rattle.kernel.specs.Calls.{slotNumber}
+use Rattle.kernel.specs.Refusals.{unless}
+use Rattle.tower.proofs.Rows.{size-pos}
+use borrow.Author.Tests.{not-true, not-false}
+use native.Mathlib.Omega.{arith}
+use mathlib.Core.Path.{refl, sym, ap, _∙_}
+use borrow.Author.Needs.{needs}
+use Rattle.kernel.proofs.numbers.slot_number.Statement.{statement}
+use Rattle.kernel.proofs.numbers.slot_number.Tie as tie
+use Rattle.kernel.proofs.numbers.slot_number.Reads as reads
+use Rattle.kernel.proofs.numbers.slot_number.Lts as lts
+use Rattle.kernel.proofs.numbers.shape_of.Reads as shape-of-reads
+use Rattle.kernel.proofs.numbers.slot_ok.Reads as slot-ok-reads
+use Rattle.kernel.proofs.numbers.tower_number.Reads as tower-number-reads
+use Rattle.tower.proofs.limits.slot_length.Reads as slot-length-reads
+use Rattle.tower.proofs.words.as_p.Reads as as-p-reads
+
+tower-number-requires : tie.Need-tower-number-requires
+tower-number-requires c κs = search needs
+
+returns : tie.Need-returns
+returns c =
+    let s = c .before .before in
+    let tower-number = c .before .tower-number in
+    let if1 = c .if1 in
+    slot-first _ _ (s .args .e) (s .args .t .now) (s .args .a .now) (tower-number .result) (tower-number .ensures) (if1 .taken)
+    ∙ of-words (λ x y. slotNumber x y (s .args .e) (s .args .t .now) (s .args .a .now)) (s .fits .p) (s .fits .n)
+
+shape-of-requires : tie.Need-shape-of-requires
+shape-of-requires c κs =
+    let s = c .before .before in
+    let tower-number = c .before .tower-number in
+    let if1 = c .if1 in
+    tower-zero _ _ (s .args .e) (s .args .t .now) (tower-number .result) (tower-number .ensures) (if1 .left)
+
+slot-length-requires : tie.Need-slot-length-requires
+slot-length-requires c κs =
+    let shape-of = c .shape-of in
+    omega (arith, shape-of .ensures .known .is-size, size-pos (shape-of .result .degrees) (shape-of .result .levels))
+
+returns-2 : tie.Need-returns-2
+returns-2 c =
+    let s = c .before .before .before .before .before in
+    let tower-number = c .before .before .before .before .tower-number in
+    let if1 = c .before .before .before .if1 in
+    let shape-of = c .before .before .shape-of in
+    let slot-length = c .before .slot-length in
+    let if2 = c .if2 in
+    slot-short (toZ w64 (ofZ w64 (s .args .p))) _ (s .args .e) (s .args .t .now) (s .args .a .now) (tower-number .result) (tower-number .ensures) (if1 .left) (shape-of .result .size) (size-found (s .args .p) _ (s .args .e) (shape-of .result) (shape-of .ensures) _ refl) (sym (slot-length .ensures) ∙ not-true _ (if2 .taken))
+    ∙ of-words (λ x y. slotNumber x y (s .args .e) (s .args .t .now) (s .args .a .now)) (s .fits .p) (s .fits .n)
+
+as-p-requires : tie.Need-as-p-requires
+as-p-requires c κs = search needs
+
+slot-ok-requires : tie.Need-slot-ok-requires
+slot-ok-requires c κs =
+    let shape-of = c .before .before .before .shape-of in
+    let slot-length = c .before .before .slot-length in
+    let if2 = c .before .if2 in
+    (shape-of .ensures .known, sym (slot-length .ensures) ∙ not-false _ (if2 .left))
+
+returns-3 : tie.Need-returns-3
+returns-3 c =
+    let s = c .before .before .before .before .before .before .before .before in
+    let tower-number = c .before .before .before .before .before .before .before .tower-number in
+    let if1 = c .before .before .before .before .before .before .if1 in
+    let shape-of = c .before .before .before .before .before .shape-of in
+    let slot-length = c .before .before .before .before .slot-length in
+    let if2 = c .before .before .before .if2 in
+    let as-p = c .before .before .as-p in
+    let slot-ok = c .before .slot-ok in
+    let if3 = c .if3 in
+    ap (λ b. unless b 5 0) (sym (not-true (slot-ok .result) (if3 .taken)))
+    ∙ slot-end (toZ w64 (ofZ w64 (s .args .p))) _ (s .args .e) (s .args .t .now) (s .args .a .now) (tower-number .result) (tower-number .ensures) (if1 .left) (shape-of .result .size) (size-found (s .args .p) _ (s .args .e) (shape-of .result) (shape-of .ensures) _ refl) (sym (slot-length .ensures) ∙ not-false _ (if2 .left))
+    (slot-ok .result) (slot-found (toZ w64 (ofZ w64 (s .args .p))) _ (s .args .e) (shape-of .result) (shape-of .ensures) (as-p .result) (as-p .ensures) (s .args .a .now) (slot-ok .result) (slot-ok .ensures))
+    ∙ of-words (λ x y. slotNumber x y (s .args .e) (s .args .t .now) (s .args .a .now)) (s .fits .p) (s .fits .n)
+
+returns-4 : tie.Need-returns-4
+returns-4 c =
+    let s = c .before .before .before .before .before .before .before .before in
+    let tower-number = c .before .before .before .before .before .before .before .tower-number in
+    let if1 = c .before .before .before .before .before .before .if1 in
+    let shape-of = c .before .before .before .before .before .shape-of in
+    let slot-length = c .before .before .before .before .slot-length in
+    let if2 = c .before .before .before .if2 in
+    let as-p = c .before .before .as-p in
+    let slot-ok = c .before .slot-ok in
+    let if3 = c .if3 in
+    ap (λ b. unless b 5 0) (sym (not-false (slot-ok .result) (if3 .left)))
+    ∙ slot-end (toZ w64 (ofZ w64 (s .args .p))) _ (s .args .e) (s .args .t .now) (s .args .a .now) (tower-number .result) (tower-number .ensures) (if1 .left) (shape-of .result .size) (size-found (s .args .p) _ (s .args .e) (shape-of .result) (shape-of .ensures) _ refl) (sym (slot-length .ensures) ∙ not-false _ (if2 .left))
+    (slot-ok .result) (slot-found (toZ w64 (ofZ w64 (s .args .p))) _ (s .args .e) (shape-of .result) (shape-of .ensures) (as-p .result) (as-p .ensures) (s .args .a .now) (slot-ok .result) (slot-ok .ensures))
+    ∙ of-words (λ x y. slotNumber x y (s .args .e) (s .args .t .now) (s .args .a .now)) (s .fits .p) (s .fits .n)
+
+pub slot-number-spec : {M : Type 1} → statement M
+slot-number-spec =
+    tie.close
+    (tie.spec
+    tower-number-requires
+    returns
+    shape-of-requires
+    slot-length-requires
+    returns-2
+    as-p-requires
+    slot-ok-requires
+    returns-3
+    returns-4)

@@ -1,0 +1,78 @@
+use mir.Syntax.{w64}
+use mir.Val.{toZ, ofZ}
+use Rattle.kernel.proofs.Order.{tower-first, tower-bad, tower-fine}
+use Rattle.kernel.proofs.Shapes.{of-words, shape-zero, tower-found}
+use Rattle.kernel.specs.Calls.{towerNumber}
+use borrow.Author.Tests.{not-true, not-false}
+use mathlib.Core.Path.{_∙_}
+use borrow.Author.Needs.{needs}
+use Rattle.kernel.proofs.numbers.tower_number.Statement.{statement}
+use Rattle.kernel.proofs.numbers.tower_number.Tie as tie
+use Rattle.kernel.proofs.numbers.tower_number.Reads as reads
+use Rattle.kernel.proofs.numbers.tower_number.Lts as lts
+use Rattle.kernel.proofs.numbers.base.Reads as base-reads
+use Rattle.kernel.proofs.numbers.shape_of.Reads as shape-of-reads
+use Rattle.kernel.proofs.numbers.tower_ok.Reads as tower-ok-reads
+use Rattle.tower.proofs.words.as_p.Reads as as-p-reads
+
+base-requires : tie.Need-base-requires
+base-requires c κs = search needs
+
+returns : tie.Need-returns
+returns c =
+    let s = c .before .before in
+    let base = c .before .base in
+    let if1 = c .if1 in
+    tower-first _ _ (s .args .e) (s .args .t .now) (base .result) (base .ensures) (if1 .taken)
+    ∙ of-words (λ x y. towerNumber x y (s .args .e) (s .args .t .now)) (s .fits .p) (s .fits .n)
+
+shape-of-requires : tie.Need-shape-of-requires
+shape-of-requires c κs =
+    let s = c .before .before in
+    let base = c .before .base in
+    let if1 = c .if1 in
+    shape-zero _ _ (s .args .e) (base .result) (base .ensures) (if1 .left)
+
+as-p-requires : tie.Need-as-p-requires
+as-p-requires c κs = search needs
+
+tower-ok-requires : tie.Need-tower-ok-requires
+tower-ok-requires c κs = search needs
+
+returns-2 : tie.Need-returns-2
+returns-2 c =
+    let s = c .before .before .before .before .before .before in
+    let base = c .before .before .before .before .before .base in
+    let if1 = c .before .before .before .before .if1 in
+    let shape-of = c .before .before .before .shape-of in
+    let as-p = c .before .before .as-p in
+    let tower-ok = c .before .tower-ok in
+    let if2 = c .if2 in
+    tower-bad _ _ (s .args .e) (s .args .t .now) (base .result) (base .ensures) (if1 .left)
+    (tower-found (toZ w64 (ofZ w64 (s .args .p))) _ (s .args .e) (shape-of .result) (shape-of .ensures) (as-p .result) (as-p .ensures) (s .args .t .now) (tower-ok .result) (tower-ok .ensures) ∙ not-true _ (if2 .taken))
+    ∙ of-words (λ x y. towerNumber x y (s .args .e) (s .args .t .now)) (s .fits .p) (s .fits .n)
+
+returns-3 : tie.Need-returns-3
+returns-3 c =
+    let s = c .before .before .before .before .before .before in
+    let base = c .before .before .before .before .before .base in
+    let if1 = c .before .before .before .before .if1 in
+    let shape-of = c .before .before .before .shape-of in
+    let as-p = c .before .before .as-p in
+    let tower-ok = c .before .tower-ok in
+    let if2 = c .if2 in
+    tower-fine _ _ (s .args .e) (s .args .t .now) (base .result) (base .ensures) (if1 .left)
+    (tower-found (toZ w64 (ofZ w64 (s .args .p))) _ (s .args .e) (shape-of .result) (shape-of .ensures) (as-p .result) (as-p .ensures) (s .args .t .now) (tower-ok .result) (tower-ok .ensures) ∙ not-false _ (if2 .left))
+    ∙ of-words (λ x y. towerNumber x y (s .args .e) (s .args .t .now)) (s .fits .p) (s .fits .n)
+
+pub tower-number-spec : {M : Type 1} → statement M
+tower-number-spec =
+    tie.close
+    (tie.spec
+    base-requires
+    returns
+    shape-of-requires
+    as-p-requires
+    tower-ok-requires
+    returns-2
+    returns-3)

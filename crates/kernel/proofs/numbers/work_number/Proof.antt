@@ -1,0 +1,55 @@
+use Rattle.kernel.proofs.Working.{work-first, work-bad-a, work-bad-b, work-fine}
+use Rattle.kernel.specs.Calls.{shapeNumber}
+use Rattle.tower.specs.Limits.{workDegree}
+use borrow.Author.Tests.{not-true, not-false}
+use mir.ValLaws.{toZ-ofZ}
+use mir.Syntax.{w64}
+use mathlib.Core.Path.{_≡_, sym, ap, _∙_}
+use borrow.Author.Needs.{needs}
+use Rattle.kernel.proofs.numbers.work_number.Statement.{statement}
+use Rattle.kernel.proofs.numbers.work_number.Tie as tie
+use Rattle.kernel.proofs.numbers.work_number.Reads as reads
+use Rattle.kernel.proofs.numbers.work_number.Lts as lts
+use Rattle.kernel.proofs.numbers.shape.Reads as shape-reads
+use Rattle.tower.proofs.limits.work_degree.Reads as work-degree-reads
+
+shape-requires : tie.Need-shape-requires
+shape-requires c κs = search needs
+
+returns : tie.Need-returns
+returns c = let s = c .before .before in
+    let er : c .before .shape .result ≡ shapeNumber (s .args .n) (s .args .e) = c .before .shape .ensures ∙ ap (λ x. shapeNumber x (s .args .e)) (toZ-ofZ w64 (c .before .before .args .n) (c .before .before .fits .n)) in
+    work-first (s .args .n) (s .args .e) (s .args .a) (s .args .b) (c .before .shape .result) er (c .if1 .taken)
+
+work-degree-requires : tie.Need-work-degree-requires
+work-degree-requires c κs = search needs
+
+returns-2 : tie.Need-returns-2
+returns-2 c = let s = c .before .before .before .before in
+    let er : c .before .before .before .shape .result ≡ shapeNumber (s .args .n) (s .args .e) = c .before .before .before .shape .ensures ∙ ap (λ x. shapeNumber x (s .args .e)) (toZ-ofZ w64 (c .before .before .before .before .args .n) (c .before .before .before .before .fits .n)) in
+    work-bad-a (s .args .n) (s .args .e) (s .args .a) (s .args .b) (c .before .before .before .shape .result) er (c .before .before .if1 .left) (ap workDegree (sym (toZ-ofZ w64 (c .before .before .before .before .args .a) (c .before .before .before .before .fits .a))) ∙ sym (c .before .work-degree .ensures) ∙ not-true _ (c .if2 .taken))
+
+work-degree-requires-2 : tie.Need-work-degree-requires-2
+work-degree-requires-2 c κs = search needs
+
+returns-3 : tie.Need-returns-3
+returns-3 c = let s = c .before .before .before .before .before .before in
+    let er : c .before .before .before .before .before .shape .result ≡ shapeNumber (s .args .n) (s .args .e) = c .before .before .before .before .before .shape .ensures ∙ ap (λ x. shapeNumber x (s .args .e)) (toZ-ofZ w64 (c .before .before .before .before .before .before .args .n) (c .before .before .before .before .before .before .fits .n)) in
+    work-bad-b (s .args .n) (s .args .e) (s .args .a) (s .args .b) (c .before .before .before .before .before .shape .result) er (c .before .before .before .before .if1 .left) (ap workDegree (sym (toZ-ofZ w64 (c .before .before .before .before .before .before .args .b) (c .before .before .before .before .before .before .fits .b))) ∙ sym (c .before .work-degree2 .ensures) ∙ not-true _ (c .if3 .taken))
+
+returns-4 : tie.Need-returns-4
+returns-4 c = let s = c .before .before .before .before .before .before in
+    let er : c .before .before .before .before .before .shape .result ≡ shapeNumber (s .args .n) (s .args .e) = c .before .before .before .before .before .shape .ensures ∙ ap (λ x. shapeNumber x (s .args .e)) (toZ-ofZ w64 (c .before .before .before .before .before .before .args .n) (c .before .before .before .before .before .before .fits .n)) in
+    work-fine (s .args .n) (s .args .e) (s .args .a) (s .args .b) (c .before .before .before .before .before .shape .result) er (c .before .before .before .before .if1 .left) (ap workDegree (sym (toZ-ofZ w64 (c .before .before .before .before .before .before .args .a) (c .before .before .before .before .before .before .fits .a))) ∙ sym (c .before .before .before .work-degree .ensures) ∙ not-false _ (c .before .before .if2 .left)) (ap workDegree (sym (toZ-ofZ w64 (c .before .before .before .before .before .before .args .b) (c .before .before .before .before .before .before .fits .b))) ∙ sym (c .before .work-degree2 .ensures) ∙ not-false _ (c .if3 .left))
+
+pub work-number-spec : {M : Type 1} → statement M
+work-number-spec =
+    tie.close
+    (tie.spec
+    shape-requires
+    returns
+    work-degree-requires
+    returns-2
+    work-degree-requires-2
+    returns-3
+    returns-4)

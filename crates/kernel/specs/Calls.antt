@@ -1,0 +1,136 @@
+-- What each public call gives, for every input: the numbers that nobody has looked at, and the lent words. This is the file that a reader must believe.
+--
+-- towerTable, slotTable, workTable  == the tests of a call in the order of document 01's numbers;  towerNumber .. == the number that they give, 0 for none
+-- checkTower, checkSlot, workSizes, fraction == what the calls give
+use Prim.Native.Nat.{ℕ, zero, suc, _*_, _%_, _<_}
+use mathlib.Core.Bool.{Bool, true, false, _&&_}
+use mathlib.Core.List.{List, [], _∷_, _++_}
+use lib.IntN.{ℤ, pos, negsuc}
+use lib.Dec.{T}
+use lib.Signed.{ltZ}
+use lib.ListN.{length}
+use Rattle.algebra.specs.Test.{branch}
+use Rattle.algebra.specs.Zmod.{Residue, toZ}
+use Rattle.euclid.specs.Answer.{Answer, done as done-with, shown, long}
+use Rattle.euclid.specs.Number.{inverse₀}
+use Rattle.tower.specs.Writing.{size}
+use Rattle.residue.specs.Word.{num, modZ}
+use Rattle.tower.specs.Form.{towerForm, slotForm}
+use Rattle.tower.specs.Lists.{countOf}
+use Rattle.tower.specs.Limits.{pOk, p-positive, levelsOk, degreesOk, degreesOf, sizeOk, slotLength, slotCount, workDegree}
+use Rattle.tower.specs.Work.{productWork, inverseWork, gcdWork}
+use Rattle.kernel.specs.Refusals.{Said, done, refused, bad-modulus, bad-degrees, bad-tower, bad-length, bad-form, no-residue, Table, first, refusal}
+
+-- ---- p, N, the degrees and the tower's words: numbers 1 to 3, the beginning of every call but the fraction and the work sizes
+abbrev pub shapeTable : ℤ → List ℤ → Table
+shapeTable n e =
+    (bad-degrees, λ _. levelsOk n)
+    ∷ (bad-degrees, λ _. degreesOk (num n) e)
+    ∷ (bad-degrees, λ _. sizeOk (degreesOf e) (num n))
+    ∷ []
+
+unfoldable pub shapeNumber : ℤ → List ℤ → ℕ
+shapeNumber n e = first (shapeTable n e)
+
+abbrev pub baseTable : ℤ → ℤ → List ℤ → Table
+baseTable p n e = (bad-modulus, λ _. pOk p) ∷ shapeTable n e
+
+unfoldable pub baseNumber : ℤ → ℤ → List ℤ → ℕ
+baseNumber p n e = first (baseTable p n e)
+
+abbrev pub towerRow : ℤ → ℤ → List ℤ → List ℤ → ℕ × (Unit {0} → Bool)
+towerRow p n e t = (bad-tower, λ _. towerForm (num p) (degreesOf e) (num n) t)
+
+abbrev pub towerTable : ℤ → ℤ → List ℤ → List ℤ → Table
+towerTable p n e t = baseTable p n e ++ (towerRow p n e t ∷ [])
+
+unfoldable pub towerNumber : ℤ → ℤ → List ℤ → List ℤ → ℕ
+towerNumber p n e t = first (towerTable p n e t)
+
+-- "Check of a tower"
+abbrev pub checkTower : ℤ → ℤ → List ℤ → List ℤ → Said
+checkTower p n e t = refusal (towerNumber p n e t)
+
+-- ---- the length of a slot, number 4, and its form, number 5
+abbrev pub sizeOf : ℤ → List ℤ → ℕ
+sizeOf n e = size (degreesOf e) (num n)
+
+abbrev pub lengthRow : ℤ → List ℤ → List ℤ → ℕ × (Unit {0} → Bool)
+lengthRow n e a = (bad-length, λ _. slotLength (sizeOf n e) (length a))
+
+abbrev pub formRow : ℤ → ℤ → List ℤ → List ℤ → ℕ × (Unit {0} → Bool)
+formRow p n e a = (bad-form, λ _. slotForm (num p) (degreesOf e) (num n) (slotCount (sizeOf n e) (length a)) a)
+
+abbrev pub slotTable : ℤ → ℤ → List ℤ → List ℤ → List ℤ → Table
+slotTable p n e t a = towerTable p n e t ++ (lengthRow n e a ∷ formRow p n e a ∷ [])
+
+unfoldable pub slotNumber : ℤ → ℤ → List ℤ → List ℤ → List ℤ → ℕ
+slotNumber p n e t a = first (slotTable p n e t a)
+
+-- "check of a slot"
+abbrev pub checkSlot : ℤ → ℤ → List ℤ → List ℤ → List ℤ → Said
+checkSlot p n e t a = refusal (slotNumber p n e t a)
+
+-- ---- "the work sizes (from N, the d_i and the degrees of a and b: M(N), I(N) and the GCD's number, by the formulas below)"
+pub record Sizes : Type 0 where
+  pub said : Said
+  pub product : ℕ
+  pub inverse : ℕ
+  pub gcd : ℕ
+
+abbrev pub degreesRow : ℤ → ℤ → ℕ × (Unit {0} → Bool)
+degreesRow a b = (bad-form, λ _. workDegree a && workDegree b)
+
+abbrev pub workTable : ℤ → List ℤ → ℤ → ℤ → Table
+workTable n e a b = shapeTable n e ++ (degreesRow a b ∷ [])
+
+unfoldable pub workNumber : ℤ → List ℤ → ℤ → ℤ → ℕ
+workNumber n e a b = first (workTable n e a b)
+
+abbrev pub sizesBy : ℕ → ℕ → ℕ → ℕ → Sizes
+sizesBy zero m i g = record { said = done; product = m; inverse = i; gcd = g }
+sizesBy (suc k) m i g = record { said = refused (suc k); product = 0; inverse = 0; gcd = 0 }
+
+abbrev pub workSizes : ℤ → List ℤ → ℤ → ℤ → Sizes
+workSizes n e a b =
+    sizesBy (workNumber n e a b) (productWork (degreesOf e) (num n)) (inverseWork (degreesOf e) (num n)) (gcdWork (degreesOf e) (num n) (countOf a) (countOf b))
+
+-- ---- "residue of a fraction": "A fraction n/e, both any signed 64-bit numbers, has the residue n times the inverse of e, from 0 to p-1. It is refused when e is
+-- not positive or shares a divisor above 1 with p."
+pub record Fraction : Type 0 where
+  pub said : Said
+  pub residue : ℕ
+
+-- the inverse of e modulo p, by the rows of level 0: it shows a divisor above 1 where there is one
+abbrev pub inverseOf : (p e : ℤ) → T (pOk p) → Answer ℕ (Residue (num p))
+inverseOf p e h = inverse₀ (num p) (p-positive p h) (toZ (num p) (p-positive p h) (num e))
+
+abbrev pub isGiven : {F A : Type 0} → Answer F A → Bool
+isGiven (done-with u) = true
+isGiven (shown f) = false
+isGiven long = false
+
+abbrev pub timesGiven : (p : ℕ) → ℤ → Answer ℕ (Residue p) → ℕ
+timesGiven p n (done-with u) = (modZ n p * u .0) % p
+timesGiven p n (shown h) = 0
+timesGiven p n long = 0
+
+abbrev pub fractionTable : ℤ → ℤ → Table
+fractionTable p e =
+    (bad-modulus, λ _. pOk p)
+    ∷ (no-residue, λ _. ltZ (pos 0) e)
+    ∷ (no-residue, λ _. branch (pOk p) (λ h. isGiven (inverseOf p e h)) (λ _. false))
+    ∷ []
+
+unfoldable pub fractionNumber : ℤ → ℤ → ℕ
+fractionNumber p e = first (fractionTable p e)
+
+unfoldable pub fractionResidue : ℤ → ℤ → ℤ → ℕ
+fractionResidue p n e = branch (pOk p) (λ h. timesGiven (num p) n (inverseOf p e h)) (λ _. 0)
+
+abbrev pub fractionBy : ℕ → ℕ → Fraction
+fractionBy zero r = record { said = done; residue = r }
+fractionBy (suc k) r = record { said = refused (suc k); residue = 0 }
+
+abbrev pub fraction : ℤ → ℤ → ℤ → Fraction
+fraction p n e = fractionBy (fractionNumber p e) (fractionResidue p n e)

@@ -1,0 +1,48 @@
+-- The promises of the public calls, as their contracts cite them, and that each determines what the call gives: two results that it allows are equal.
+-- Lists that are lent to be read only cannot change, by their type.
+--
+-- TowerChecked, SlotChecked, SizesGiven, FractionGiven == the promises;  .. -determined == two results that a promise allows are equal
+use mathlib.Core.Path.{_≡_, sym, _∙_}
+use mathlib.Core.List.{List}
+use lib.IntN.{ℤ}
+use Rattle.kernel.specs.declared.Answer.{Answer}
+use Rattle.kernel.specs.declared.WorkSizes.{WorkSizes}
+use Rattle.kernel.specs.declared.FractionResidue.{FractionResidue}
+use Rattle.kernel.specs.Answers.{said, said-inj}
+use Rattle.kernel.specs.Calls.{checkTower, checkSlot, workSizes, fraction}
+
+pub record TowerChecked (p n : ℤ) (e t : List ℤ) (r : Answer) : Type 0 where
+  pub answer : said r ≡ checkTower p n e t
+
+pub tower-determined : (p n : ℤ) (e t : List ℤ) (r s : Answer) → TowerChecked p n e t r → TowerChecked p n e t s → r ≡ s
+tower-determined p n e t r s h k = said-inj r s (h .answer ∙ sym (k .answer))
+
+pub record SlotChecked (p n : ℤ) (e t a : List ℤ) (r : Answer) : Type 0 where
+  pub answer : said r ≡ checkSlot p n e t a
+
+pub slot-determined : (p n : ℤ) (e t a : List ℤ) (r s : Answer) → SlotChecked p n e t a r → SlotChecked p n e t a s → r ≡ s
+slot-determined p n e t a r s h k = said-inj r s (h .answer ∙ sym (k .answer))
+
+pub record SizesGiven (n : ℤ) (e : List ℤ) (a b : ℤ) (r : WorkSizes) : Type 0 where
+  pub answer : said (r .answer) ≡ workSizes n e a b .said
+  pub product : r .product ≡ workSizes n e a b .product
+  pub inverse : r .inverse ≡ workSizes n e a b .inverse
+  pub gcd : r .gcd ≡ workSizes n e a b .gcd
+
+pub sizes-determined : (n : ℤ) (e : List ℤ) (a b : ℤ) (r s : WorkSizes) → SizesGiven n e a b r → SizesGiven n e a b s → r ≡ s
+sizes-determined n e a b r s h k =
+    let answer = said-inj (r .answer) (s .answer) (h .answer ∙ sym (k .answer)) in
+    let product = h .product ∙ sym (k .product) in
+    let inverse = h .inverse ∙ sym (k .inverse) in
+    let gcd = h .gcd ∙ sym (k .gcd) in
+    λ i. record { answer = answer i; product = product i; inverse = inverse i; gcd = gcd i }
+
+pub record FractionGiven (p n e : ℤ) (r : FractionResidue) : Type 0 where
+  pub answer : said (r .answer) ≡ fraction p n e .said
+  pub residue : r .residue ≡ fraction p n e .residue
+
+pub fraction-determined : (p n e : ℤ) (r s : FractionResidue) → FractionGiven p n e r → FractionGiven p n e s → r ≡ s
+fraction-determined p n e r s h k =
+    let answer = said-inj (r .answer) (s .answer) (h .answer ∙ sym (k .answer)) in
+    let residue = h .residue ∙ sym (k .residue) in
+    λ i. record { answer = answer i; residue = residue i }

@@ -1,0 +1,117 @@
+-- The kinds of answer, document 01's refusal numbers by name, and the ordered table: a call's tests stand in it in the order of their numbers, and the first
+-- that does not pass gives the number.
+--
+-- Said, done, factor, refused == "Done, a shown factor with its level, and a refusal are three kinds of answer."
+-- Table, first                == rows of a number and a test; the first number whose test does not pass, 0 where all pass
+-- first-append                == two tables, one behind the other
+-- passed-of, first-of         == no number is given exactly where every test passes
+-- first-applies               == a number that is given is the first that applies, and comes only under its condition
+use Prim.Native.Nat.{ℕ, zero, suc, _≤_, _<_}
+use native.Mathlib.Nat.{not-suc-le-zero, lt-irrefl}
+use native.Mathlib.Omega.{arith}
+use mathlib.Core.Path.{_≡_, refl, ap, sym, _∙_, subst}
+use mathlib.Core.Bool.{Bool, true, false, not}
+use mathlib.Core.List.{List, [], _∷_, _++_}
+use mathlib.Core.Logic.{_⊎_, inl, inr}
+use lib.Dec.{T}
+
+pub data Said : Type 0 where
+  done : Said
+  factor : ℕ → Said
+  refused : ℕ → Said
+
+-- "p out of range"
+abbrev pub bad-modulus : ℕ
+bad-modulus = 1
+
+-- "N or the degrees out of range, or S_N above 2,048"
+abbrev pub bad-degrees : ℕ
+bad-degrees = 2
+
+-- "tower words: wrong length or form, or not monic"
+abbrev pub bad-tower : ℕ
+bad-tower = 3
+
+-- "a slot, element or factor buffer of a length not allowed"
+abbrev pub bad-length : ℕ
+bad-length = 4
+
+-- "an input slot or element not in form; for work sizes, a degree outside -1 to 255"
+abbrev pub bad-form : ℕ
+bad-form = 5
+
+-- "fraction without residue"
+abbrev pub no-residue : ℕ
+no-residue = 10
+
+-- the number where the test fails, or else the rest
+abbrev pub unless : Bool → ℕ → ℕ → ℕ
+unless true k r = r
+unless false k r = k
+
+-- a number, and the test that keeps it away; the test is looked at only when all before it have passed
+abbrev pub Table : Type 0
+Table = List (ℕ × (Unit {0} → Bool))
+
+abbrev pub first : Table → ℕ
+first [] = 0
+first (row ∷ rows) = let rest : ℕ = first rows in unless (row .1 tt) (row .0) rest
+
+-- no number is no refusal
+abbrev pub refusal : ℕ → Said
+refusal zero = done
+refusal (suc k) = refused (suc k)
+
+-- ---- two tables, one behind the other
+abbrev pub andThen : ℕ → ℕ → ℕ
+andThen zero r = r
+andThen (suc k) r = suc k
+
+-- every number of the table is one
+abbrev pub Numbered : Table → Type 0
+Numbered [] = Unit {0}
+Numbered (row ∷ rows) = (1 ≤ row .0) × Numbered rows
+
+unless-then : (b : Bool) (k r s : ℕ) → 1 ≤ k → unless b k (andThen r s) ≡ andThen (unless b k r) s
+unless-then true k r s h = refl
+unless-then false zero r s h = absurd (not-suc-le-zero h)
+unless-then false (suc k) r s h = refl
+
+pub first-append : (a b : Table) → Numbered a → first (a ++ b) ≡ andThen (first a) (first b)
+first-append [] b h = refl
+first-append (row ∷ rows) b h = ap (unless (row .1 tt) (row .0)) (first-append rows b (h .1)) ∙ unless-then (row .1 tt) (row .0) (first rows) (first b) (h .0)
+
+-- ---- where no number is given every test has passed
+abbrev pub Passed : Table → Type 0
+Passed [] = Unit {0}
+Passed (row ∷ rows) = T (row .1 tt) × Passed rows
+
+zero-unless : (b : Bool) (k r : ℕ) → 1 ≤ k → unless b k r ≡ 0 → T b × (r ≡ 0)
+zero-unless true k r l h = (tt, h)
+zero-unless false k r l h = absurd (lt-irrefl 0 (omega arith))
+
+pub passed-of : (t : Table) → Numbered t → first t ≡ 0 → Passed t
+passed-of [] n h = tt
+passed-of (row ∷ rows) n h =
+    let z = zero-unless (row .1 tt) (row .0) (first rows) (n .0) h in
+    (z .0, passed-of rows (n .1) (z .1))
+
+unless-passed : (b : Bool) (k r : ℕ) → T b → r ≡ 0 → unless b k r ≡ 0
+unless-passed true k r t h = h
+
+pub first-of : (t : Table) → Passed t → first t ≡ 0
+first-of [] h = refl
+first-of (row ∷ rows) h = unless-passed (row .1 tt) (row .0) (first rows) (h .0) (first-of rows (h .1))
+
+-- ---- a number given is the first that applies, and comes only under its condition
+abbrev pub Applies : Table → ℕ → Type 0
+Applies [] k = ⊥
+Applies (row ∷ rows) k = (T (not (row .1 tt)) × (row .0 ≡ k)) ⊎ (T (row .1 tt) × Applies rows k)
+
+pub first-applies : (t : Table) (k : ℕ) → first t ≡ suc k → Applies t (suc k)
+first-applies [] k h = lt-irrefl 0 (omega arith)
+first-applies (row ∷ rows) k h = which (row .1 tt) (first-applies rows k) h
+  where
+    which : (b : Bool) → (first rows ≡ suc k → Applies rows (suc k)) → unless b (row .0) (first rows) ≡ suc k → (T (not b) × (row .0 ≡ suc k)) ⊎ (T b × Applies rows (suc k))
+    which true later h = inr (tt, later h)
+    which false later h = inl (tt, h)

@@ -1,0 +1,103 @@
+// The public calls. None has a `requires`: what a call cannot do it refuses, by the first number of document 01's table that applies. What each gives is in
+// specs/Calls.antt, and the promises cite it by name (specs/Promises.antt).
+pub mod fractions;
+pub mod numbers;
+
+ghost use Rattle.kernel.specs.Promises.{TowerChecked, SlotChecked, SizesGiven, FractionGiven};
+use fractions::no_fraction;
+use fractions::quotient;
+use numbers::BAD_MODULUS;
+use numbers::NO_RESIDUE;
+use numbers::answer;
+use numbers::shape_of;
+use numbers::slot_number;
+use numbers::tower_number;
+use numbers::work_number;
+use tower::limits::p_ok;
+use tower::words::as_p;
+use tower::words::count;
+use tower::work::gcd_work;
+use tower::work::inverse_work;
+use tower::work::product_work;
+
+// Done, a shown factor with its level, or a refusal with its number.
+pub enum Answer {
+    Done,
+    Factor(usize),
+    Refused(usize),
+}
+
+// The work sizes M(N), I(N) and the GCD's number; zeros beside a refusal.
+pub struct WorkSizes {
+    pub answer: Answer,
+    pub product: usize,
+    pub inverse: usize,
+    pub gcd: usize,
+}
+
+// The residue of a fraction; 0 beside a refusal.
+pub struct FractionResidue {
+    pub answer: Answer,
+    pub residue: u64,
+}
+
+// What p, N and the degrees come to once they are in range: the levels, the four degrees, S_0 to S_4, and S_N.
+pub struct Shape {
+    pub levels: usize,
+    pub degrees: [usize; 4],
+    pub sizes: [usize; 5],
+    pub size: usize,
+}
+
+// Check of a tower: whether p, N, the degrees and the words are those of a tower. Refuses 1 to 3. Writes nothing.
+pub fn check_tower(p: i64, n: i64, e: [i64; 4], t: &[i64]) -> Answer
+    ensures checked { λ r. ⌜ TowerChecked p n e (now (t .entry)) r ⌝ }
+{
+    answer(tower_number(p, n, e, t))
+}
+
+// Check of a slot: whether a is a slot over the tower, in form. Refuses 1 to 5. Writes nothing.
+pub fn check_slot(p: i64, n: i64, e: [i64; 4], t: &[i64], a: &[i64]) -> Answer
+    ensures checked { λ r. ⌜ SlotChecked p n e (now (t .entry)) (now (a .entry)) r ⌝ }
+{
+    answer(slot_number(p, n, e, t, a))
+}
+
+// The work sizes for a tower of n levels and polynomials of the degrees a and b. Refuses 2 and 5. Writes nothing.
+pub fn work_sizes(n: i64, e: [i64; 4], a: i64, b: i64) -> WorkSizes
+    ensures given { λ r. ⌜ SizesGiven n e a b r ⌝ }
+{
+    let number = work_number(n, e, a, b);
+    if 0 < number {
+        return WorkSizes {
+            answer: Answer::Refused(number),
+            product: 0,
+            inverse: 0,
+            gcd: 0,
+        };
+    }
+    let s = shape_of(n, e);
+    let d = s.degrees;
+    let product = product_work(s.levels, d);
+    let inverse = inverse_work(s.levels, d);
+    let gcd = gcd_work(count(a), count(b), s.size, inverse);
+    WorkSizes {
+        answer: Answer::Done,
+        product,
+        inverse,
+        gcd,
+    }
+}
+
+// The residue of n/e modulo p, from 0 to p - 1. Refuses 1, and 10 where e is not positive or shares a divisor above 1 with p. Writes nothing.
+pub fn residue_of_fraction(p: i64, n: i64, e: i64) -> FractionResidue
+    ensures given { λ r. ⌜ FractionGiven p n e r ⌝ }
+{
+    if !p_ok(p) {
+        return no_fraction(BAD_MODULUS);
+    }
+    if e <= 0 {
+        return no_fraction(NO_RESIDUE);
+    }
+    quotient(n, residue::number(e), as_p(p))
+}
