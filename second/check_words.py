@@ -72,12 +72,6 @@ def values_to_try(p, degrees, room=0):
     return range(-2, max((p, room - 1) + degrees) + 1)
 
 
-def any_tower(p, degrees):
-    """Some tower of these degrees; m_i is a power of z_i."""
-    return Tower(p, tuple((ring.zero(i),) * d + (ring.one(i),)
-                          for i, d in enumerate(degrees)))
-
-
 def every_element_writing(check, p, degrees):
     """The form test of elements, on every list of words."""
     def in_form(w):
@@ -86,7 +80,7 @@ def every_element_writing(check, p, degrees):
     level = len(degrees)
     what = ("elements", p, degrees)
     writings = [words.element_to_words(degrees, level, a)
-                for a in samples.all_elements(any_tower(p, degrees), level)]
+                for a in samples.all_elements(samples.power_tower(p, degrees), level)]
     accepts_exactly(check, values_to_try(p, degrees), words.sizes(degrees)[level],
                     in_form, writings, *what)
     no_other_length(check, in_form, writings, *what)
@@ -94,7 +88,7 @@ def every_element_writing(check, p, degrees):
 
 def every_slot_writing(check, p, degrees, room):
     """The form test of slots, on every list of words."""
-    tower, level = any_tower(p, degrees), len(degrees)
+    tower, level = samples.power_tower(p, degrees), len(degrees)
     writings = [words.slot_to_words(degrees, f, room)
                 for f in samples.all_polynomials(tower, level, room - 1)]
     accepts_exactly(check, values_to_try(p, degrees, room),
@@ -123,6 +117,6 @@ def second_level_writing(check):
     p, degrees = 2, (2, 2)
     what = ("m_2", p, degrees)
     writings = [words.tower_polynomial_to_words(degrees, 2, m)
-                for m in samples.all_monic(any_tower(p, degrees), 1, 2)]
+                for m in samples.all_monic(samples.power_tower(p, degrees), 1, 2)]
     accepts_exactly(check, range(-1, 3), 10, in_form, writings, *what)
     no_other_length(check, in_form, writings, *what)

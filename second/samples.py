@@ -4,7 +4,7 @@ import itertools
 
 from second.ring import (
     Tower, degree, one, part_below, poly_divide, poly_multiply, top_level,
-    tower_polynomial, without_trailing_zeros)
+    tower_polynomial, without_trailing_zeros, zero)
 
 
 # Every value.
@@ -74,6 +74,12 @@ def random_towers(rng, moduli, highest_level, highest_degree):
     return [random_tower(rng, modulus, [rng.randint(2, highest_degree)
                                         for _ in range(levels)])
             for modulus in moduli for levels in range(highest_level + 1)]
+
+
+def power_tower(modulus, degrees):
+    """The tower in which each m_i is a power of z_i."""
+    return Tower(modulus, tuple((zero(level),) * d + (one(level),)
+                                for level, d in enumerate(degrees)))
 
 
 # Which towers are without factors.

@@ -1,0 +1,84 @@
+"""The public calls on raw numbers and words, every refusal included.
+
+Each call takes p, N and the degrees as any ints and lists as any words, and
+gives its answer with the numbers that stand beside it:
+    (('done',), values)   (('refused', number), values)
+The values are 0 in a refused call. 'Refusal numbers, tested in this order' are
+tested over all arguments before the next number is.
+"""
+
+from second import sequence, words
+
+
+def first_number(tests):
+    """The first number whose test holds; tests are (number, function) pairs."""
+    return next((number for number, applies in tests if applies()), 0)
+
+
+def answer_of(number):
+    """Number 0 stands for no refusal."""
+    return ("done",) if number == 0 else ("refused", number)
+
+
+# The numbers 1 to 5.
+
+def modulus_out_of_range(p):
+    """1: 'p out of range', 'a number from 2 to 2,147,483,647'."""
+    return not 2 <= p <= 2147483647
+
+
+def tower_tests(p, levels, four_degrees, tower):
+    """1 to 3, which every call with a tower asks first."""
+    degrees = used_degrees(levels, four_degrees)
+    return [
+        (1, lambda: modulus_out_of_range(p)),
+        (2, lambda: not words.degrees_allowed(levels, four_degrees)),
+        (3, lambda: not words.tower_in_form(p, degrees, tower)),
+    ]
+
+
+def used_degrees(levels, four_degrees):
+    """d_1 to d_N; of no use where number 2 applies."""
+    return tuple(four_degrees[:max(levels, 0)])
+
+
+def slot_tests(p, levels, four_degrees, slots):
+    """4 of every slot, then 5 of every slot."""
+    degrees = used_degrees(levels, four_degrees)
+    return [
+        (4, lambda: not all(words.slot_length_allowed(degrees, len(slot))
+                            for slot in slots)),
+        (5, lambda: not all(words.slot_in_form(p, degrees, slot)
+                            for slot in slots)),
+    ]
+
+
+# The calls.
+
+def check_tower(p, levels, four_degrees, tower):
+    """'check of a tower 1 to 3'."""
+    tests = tower_tests(p, levels, four_degrees, tower)
+    return answer_of(first_number(tests)), ()
+
+
+def check_slot(p, levels, four_degrees, tower, slot):
+    """'check of a slot and leading view 1 to 5'."""
+    tests = (tower_tests(p, levels, four_degrees, tower)
+             + slot_tests(p, levels, four_degrees, [slot]))
+    return answer_of(first_number(tests)), ()
+
+
+def residue_of_fraction(p, n, e):
+    """'fraction 1, 10'; the residue stands beside the answer."""
+    answer = sequence.fraction(p, n, e)
+    if answer[0] == "done":
+        return ("done",), (answer[1],)
+    return answer, (0,)
+
+
+def work_sizes(levels, four_degrees, degree_a, degree_b):
+    """'work sizes 2, 5'; M(N), I(N) and the GCD's number beside the answer."""
+    answer = words.work_sizes(levels, four_degrees, degree_a, degree_b)
+    if answer[0] == "done":
+        return ("done",), answer[1]
+    return answer, (0, 0, 0)
