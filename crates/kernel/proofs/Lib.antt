@@ -1,3 +1,4 @@
+pub mod Told
 pub mod Range
 pub mod Order
 pub mod Working

@@ -1,6 +1,6 @@
 -- Laws of the calls: from the numbers to what is known after them.
 use Rattle.kernel.proofs.Range.{small-of, levels-low}
-use Rattle.kernel.specs.Calls.{towerRow, lengthRow, formRow, shapeTable, baseTable, towerTable, shapeNumber, baseNumber, towerNumber, slotNumber}
+use Rattle.kernel.specs.Calls.{sizeOf, towerRow, lengthRow, formRow, shapeTable, baseTable, towerTable, shapeNumber, baseNumber, towerNumber, slotNumber}
 use Rattle.kernel.specs.Refusals.{refused, refusal, Numbered, first-append, unless, andThen}
 use Rattle.residue.specs.Word.{num}
 use Rattle.tower.specs.Form.{seg, towerForm, slotForm}
@@ -38,7 +38,9 @@ unfolding towerNumber baseNumber
 tower-is p n e t = first-append (baseTable p n e) (towerRow p n e t ∷ []) (base-numbered p n e)
 
 pub slot-is : (p n : ℤ) (e t a : List ℤ) → slotNumber p n e t a
-    ≡ andThen (towerNumber p n e t) (unless (slotLength (size (degreesOf e) (num n)) (length a)) 4 (unless (slotForm (num p) (degreesOf e) (num n) (slotCount (size (degreesOf e) (num n)) (length a)) a) 5 0))
+    ≡ andThen
+    (towerNumber p n e t)
+    (unless (slotLength (sizeOf n e) (length a)) 4 (unless (slotForm (num p) (degreesOf e) (num n) (slotCount (sizeOf n e) (length a)) a) 5 0))
 unfolding slotNumber towerNumber
 slot-is p n e t a = first-append (towerTable p n e t) (lengthRow n e a ∷ formRow p n e a ∷ []) (tower-numbered p n e t)
 
@@ -102,17 +104,32 @@ module _ (p n : ℤ) (e t : List ℤ) (r : ℕ) (er : r ≡ baseNumber p n e) wh
   tower-fine h k = then-next (baseNumber p n e) (unless (towerForm (num p) (degreesOf e) (num n) t) 3 0) r 0 er h (rw k refl) ∙ sym (tower-is p n e t)
 
 module _ (p n : ℤ) (e t a : List ℤ) (r : ℕ) (er : r ≡ towerNumber p n e t) where
+  abbrev pub fitsLength : Bool
+  fitsLength = slotLength (sizeOf n e) (length a)
+
+  abbrev pub fitsForm : Bool
+  fitsForm = slotForm (num p) (degreesOf e) (num n) (slotCount (sizeOf n e) (length a)) a
+
   pub slot-first : 0 < r → r ≡ slotNumber p n e t a
   slot-first h = then-first (towerNumber p n e t) _ r er h ∙ sym (slot-is p n e t a)
 
-  slot-rest : r ≤ 0 → (x y : Bool) → slotLength (size (degreesOf e) (num n)) (length a) ≡ x → slotForm (num p) (degreesOf e) (num n) (slotCount (size (degreesOf e) (num n)) (length a)) a ≡ y → unless x 4 (unless y 5 0) ≡ slotNumber p n e t a
-  slot-rest h x y k l = then-next (towerNumber p n e t) (unless (slotLength (size (degreesOf e) (num n)) (length a)) 4 (unless (slotForm (num p) (degreesOf e) (num n) (slotCount (size (degreesOf e) (num n)) (length a)) a) 5 0)) r (unless x 4 (unless y 5 0)) er h (ap₂ (λ u v. unless u 4 (unless v 5 0)) (sym k) (sym l)) ∙ sym (slot-is p n e t a)
+  slot-rest : r ≤ 0 → (x y : Bool) → fitsLength ≡ x → fitsForm ≡ y → unless x 4 (unless y 5 0) ≡ slotNumber p n e t a
+  slot-rest h x y k l =
+      then-next (towerNumber p n e t) (unless fitsLength 4 (unless fitsForm 5 0)) r (unless x 4 (unless y 5 0)) er h (ap₂ (λ u v. unless u 4 (unless v 5 0)) (sym k) (sym l))
+      ∙ sym (slot-is p n e t a)
 
-  pub slot-short : r ≤ 0 → (s : ℕ) → s ≡ size (degreesOf e) (num n) → slotLength s (length a) ≡ false → 4 ≡ slotNumber p n e t a
+  pub slot-short : r ≤ 0 → (s : ℕ) → s ≡ sizeOf n e → slotLength s (length a) ≡ false → 4 ≡ slotNumber p n e t a
   slot-short h s es k = slot-rest h false _ (ap (λ m. slotLength m (length a)) (sym es) ∙ k) refl
 
-  pub slot-end : r ≤ 0 → (s : ℕ) → s ≡ size (degreesOf e) (num n) → slotLength s (length a) ≡ true → (b : Bool) → b ≡ slotForm (num p) (degreesOf e) (num n) (slotCount s (length a)) a → unless b 5 0 ≡ slotNumber p n e t a
-  slot-end h s es k b eb = slot-rest h true b (ap (λ m. slotLength m (length a)) (sym es) ∙ k) (ap (λ m. slotForm (num p) (degreesOf e) (num n) (slotCount m (length a)) a) (sym es) ∙ sym eb)
+  pub slot-end : r ≤ 0 → (s : ℕ) → s ≡ sizeOf n e → slotLength s (length a) ≡ true
+      → (b : Bool) → b ≡ slotForm (num p) (degreesOf e) (num n) (slotCount s (length a)) a → unless b 5 0 ≡ slotNumber p n e t a
+  slot-end h s es k b eb =
+      slot-rest
+      h
+      true
+      b
+      (ap (λ m. slotLength m (length a)) (sym es) ∙ k)
+      (ap (λ m. slotForm (num p) (degreesOf e) (num n) (slotCount m (length a)) a) (sym es) ∙ sym eb)
 
 -- the whole list as a part
 pub seg-all : (m : ℕ) (a : List ℤ) → length a ≡ m → seg 0 m a ≡ a

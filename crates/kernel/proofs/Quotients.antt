@@ -11,7 +11,7 @@ use mir.Syntax.{w64}
 use mir.Val.{SFits, toZ as wordZ, ofZ}
 use mir.ValLaws.{toZ-ofZ}
 use borrow.Author.Tests.{lt-leb, lt-ltb}
-use Rattle.kernel.proofs.Shapes.{of-word}
+use Rattle.kernel.proofs.Told.{of-word}
 use Rattle.algebra.specs.Test.{branch}
 use Rattle.algebra.specs.Zmod.{Residue, toZ, residue-path}
 use Rattle.euclid.specs.Answer.{done, shown}
@@ -121,9 +121,6 @@ module _ (p n e : ℤ) where
         go (Refused k) h q = fraction-shared q
 
 -- ---- what the call learns from its tests
-pub p-told : {p : ℤ} → SFits w64 p → (r b : Bool) → r ≡ pOk (wordZ w64 (ofZ w64 p)) → r ≡ b → pOk p ≡ b
-p-told fits r b er eb = sym (of-word pOk fits) ∙ sym er ∙ eb
-
 pub e-told : {e : ℤ} → SFits w64 e → (b : Bool) → leZ (wordZ w64 (ofZ w64 e)) (pos 0) ≡ b → ltZ (pos 0) e ≡ not b
 e-told {e} fits b eb = above e b (sym (of-word (λ x. leZ x (pos 0)) fits) ∙ eb)
   where

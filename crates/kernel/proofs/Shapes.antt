@@ -1,15 +1,16 @@
 -- Laws of the shape of a tower whose N and degrees are in range.
 use Prim.Native.Nat.{ℕ, _+_, _*_, _<_, _≤_}
 use mathlib.Core.Path.{_≡_, refl, sym, ap, ap₂, _∙_, subst}
-use mathlib.Core.Bool.{Bool, true}
+use mathlib.Core.Bool.{Bool, true, false}
 use mathlib.Core.List.{List}
 use native.Mathlib.Omega.{arith}
 use lib.IntN.{ℤ}
 use lib.ListN.{length, getD}
 use Rattle.kernel.specs.declared.Shape.{Shape}
-use Rattle.kernel.proofs.Order.{seg-all, zero-of, zero-unless, zero-then, base-is, tower-is, tower-whole, shape-passed, passed-small, passed-low, passed-few}
+use Rattle.kernel.proofs.Order.{tower-bad, tower-fine, slot-short, slot-end, seg-all, zero-of, zero-unless, zero-then, base-is, tower-is, tower-whole, shape-passed, passed-small, passed-low, passed-few}
 use Rattle.kernel.proofs.Working.{passed-big}
-use Rattle.kernel.specs.Calls.{shapeNumber, baseNumber, towerNumber}
+use Rattle.kernel.specs.Calls.{shapeNumber, baseNumber, towerNumber, slotNumber}
+use Rattle.kernel.specs.Refusals.{unless}
 use Rattle.kernel.specs.Shape.{Known, ShapeOf}
 use Rattle.residue.specs.Word.{num}
 use Rattle.tower.proofs.Lengths.{length-is}
@@ -19,9 +20,6 @@ use Rattle.tower.specs.Levels.{degree}
 use Rattle.tower.specs.Limits.{pOk, degreesOf, slotLength, slotCount}
 use Rattle.tower.specs.Ready.{Sized, Small, Row}
 use Rattle.tower.specs.Writing.{size}
-use mir.Syntax.{w64}
-use mir.Val.{SFits, toZ, ofZ}
-use mir.ValLaws.{toZ-ofZ}
 
 module _ (n : ℤ) (e : List ℤ) (h : 0 ≡ shapeNumber n e) where
   pub shape-small : Small (degreesOf e)
@@ -66,13 +64,6 @@ module _ (s : Shape) (a : List ℤ) (k : Known s) (h : slotLength (s .size) (len
   size-positive = omega (arith, k .is-size, size-pos (s .degrees) (s .levels))
 
 -- ---- what a call learns from the tests of its callees
--- a signed number that went through a call is the same
-pub of-word : {A : Type 0} (f : ℤ → A) {x : ℤ} → SFits w64 x → f (toZ w64 (ofZ w64 x)) ≡ f x
-of-word f {x} h = ap f (toZ-ofZ w64 x h)
-
-pub of-words : {A : Type 0} (f : ℤ → ℤ → A) {x y : ℤ} → SFits w64 x → SFits w64 y → f (toZ w64 (ofZ w64 x)) (toZ w64 (ofZ w64 y)) ≡ f x y
-of-words f {x} {y} h k = ap₂ f (toZ-ofZ w64 x h) (toZ-ofZ w64 y k)
-
 pub shape-zero : (p n : ℤ) (e : List ℤ) (r : ℕ) → r ≡ baseNumber p n e → r ≤ 0 → 0 ≡ shapeNumber n e
 shape-zero p n e r er h = zero-unless (pOk p) 0 (shapeNumber n e) (zero-of r h ∙ er ∙ base-is p n e) .1
 
@@ -80,13 +71,25 @@ pub tower-zero : (p n : ℤ) (e t : List ℤ) (r : ℕ) → r ≡ towerNumber p 
 tower-zero p n e t r er h = shape-zero p n e (baseNumber p n e) refl (omega (arith, zero-then (baseNumber p n e) _ (zero-of r h ∙ er ∙ tower-is p n e t)))
 
 module _ (p n : ℤ) (e : List ℤ) (s : Shape) (is : ShapeOf n e s) (q : ℕ) (eq : q ≡ num p) where
-  pub tower-found : (t : List ℤ) (b : Bool) → b ≡ towerForm q (s .degrees) (s .levels) t → towerForm (num p) (degreesOf e) (num n) t ≡ b
+  tower-found : (t : List ℤ) (b : Bool) → b ≡ towerForm q (s .degrees) (s .levels) t → towerForm (num p) (degreesOf e) (num n) t ≡ b
   tower-found t b eb = sym (tower-whole q (num p) (s .degrees) (degreesOf e) (s .levels) (num n) eq (is .degrees) (is .levels) t) ∙ sym eb
 
   -- the size of a coefficient
   pub size-found : s .size ≡ size (degreesOf e) (num n)
   size-found = is .known .is-size ∙ ap₂ size (is .degrees) (is .levels)
 
-  pub slot-found : (a : List ℤ) (b : Bool) → b ≡ slotForm q (s .degrees) (s .levels) (slotCount (s .size) (length a)) a
+  slot-found : (a : List ℤ) (b : Bool) → b ≡ slotForm q (s .degrees) (s .levels) (slotCount (s .size) (length a)) a
       → b ≡ slotForm (num p) (degreesOf e) (num n) (slotCount (s .size) (length a)) a
   slot-found a b eb = eb ∙ λ i. slotForm (eq i) (is .degrees i) (is .levels i) (slotCount (s .size) (length a)) a
+
+  -- the number that the last test of a call comes to
+  pub tower-answered : (t : List ℤ) (r : ℕ) → r ≡ baseNumber p n e → r ≤ 0 → (b : Bool) → b ≡ towerForm q (s .degrees) (s .levels) t → unless b 3 0 ≡ towerNumber p n e t
+  tower-answered t r er h true eb = tower-fine p n e t r er h (tower-found t true eb)
+  tower-answered t r er h false eb = tower-bad p n e t r er h (tower-found t false eb)
+
+  pub slot-unfit : (t a : List ℤ) (r : ℕ) → r ≡ towerNumber p n e t → r ≤ 0 → slotLength (s .size) (length a) ≡ false → 4 ≡ slotNumber p n e t a
+  slot-unfit t a r er h k = slot-short p n e t a r er h (s .size) size-found k
+
+  pub slot-answered : (t a : List ℤ) (r : ℕ) → r ≡ towerNumber p n e t → r ≤ 0 → slotLength (s .size) (length a) ≡ true
+      → (b : Bool) → b ≡ slotForm q (s .degrees) (s .levels) (slotCount (s .size) (length a)) a → unless b 5 0 ≡ slotNumber p n e t a
+  slot-answered t a r er h k b eb = slot-end p n e t a r er h (s .size) size-found k b (slot-found a b eb)

@@ -36,7 +36,9 @@ passed-big n e h k l = go k l
     low = passed-low n e h
 
     one : (k : ℕ) → k < 4 → k < num n → 2 ≤ num (getD e k (pos 0))
-    one k q l = at-least-two (getD e k (pos 0)) (subst (λ x. T (degreeIn x (getD e k (pos 0)))) (lt-ltb k (num n) l) (allTo-use 4 (λ j. degreeIn (ltb j (num n)) (getD e j (pos 0))) (of-true (degreesOk (num n) e) (h .degrees)) k q))
+    one k q l =
+        let t = allTo-use 4 (λ j. degreeIn (ltb j (num n)) (getD e j (pos 0))) (of-true (degreesOk (num n) e) (h .degrees)) k q in
+        at-least-two (getD e k (pos 0)) (subst (λ x. T (degreeIn x (getD e k (pos 0)))) (lt-ltb k (num n) l) t)
 
     go : (k : ℕ) → k < num n → 2 ≤ getD (degreesOf e) k 0
     go zero l = one 0 (omega arith) l

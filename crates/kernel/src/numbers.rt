@@ -36,6 +36,7 @@ pub const BAD_FORM: usize = 5;
 
 pub const NO_RESIDUE: usize = 10;
 
+// The answer that a number is: 0 is Done.
 pub fn answer(number: usize) -> Answer
     ensures { λ r. ⌜ said r ≡ refusal number ⌝ }
 {
@@ -45,7 +46,7 @@ pub fn answer(number: usize) -> Answer
     Answer::Refused(number)
 }
 
-// 0 or 2
+// Number 2 or 0, of N and the degrees.
 pub fn shape(n: i64, e: [i64; 4]) -> usize
     ensures { λ r. ⌜ r ≡ shapeNumber n e ⌝ }
 {
@@ -63,7 +64,7 @@ pub fn shape(n: i64, e: [i64; 4]) -> usize
     BAD_DEGREES
 }
 
-// 0, 1 or 2
+// Number 1, 2 or 0, of p, N and the degrees.
 pub fn base(p: i64, n: i64, e: [i64; 4]) -> usize
     ensures { λ r. ⌜ r ≡ baseNumber p n e ⌝ }
 {
@@ -73,6 +74,7 @@ pub fn base(p: i64, n: i64, e: [i64; 4]) -> usize
     shape(n, e)
 }
 
+// The shape of a tower whose N and degrees are in range.
 pub fn shape_of(n: i64, e: [i64; 4]) -> Shape
     requires { ⌜ 0 ≡ shapeNumber n e ⌝ }
     ensures { λ r. ⌜ ShapeOf n e r ⌝ }
@@ -88,7 +90,7 @@ pub fn shape_of(n: i64, e: [i64; 4]) -> Shape
     }
 }
 
-// the words are those of a tower of this shape
+// The words are those of a tower of this shape.
 pub fn tower_ok(s: Shape, p: u64, t: &[i64]) -> bool
     requires { ⌜ Known s ⌝ }
     ensures { λ r. ⌜ r ≡ towerForm p (s .degrees) (s .levels) (now (t .entry)) ⌝ }
@@ -101,7 +103,7 @@ pub fn tower_ok(s: Shape, p: u64, t: &[i64]) -> bool
     tower(s.levels, d, z, p, t)
 }
 
-// a slot of a length that is allowed is in form over a tower of this shape
+// A slot of a length that is allowed is in form over a tower of this shape.
 pub fn slot_ok(s: Shape, p: u64, a: &[i64]) -> bool
     requires { ⌜ Known s × (slotLength (s .size) (length (now a)) ≡ true) ⌝ }
     ensures { λ r. ⌜ r ≡ slotForm p (s .degrees) (s .levels) (slotCount (s .size) (length (now (a .entry)))) (now (a .entry)) ⌝ }
@@ -112,7 +114,7 @@ pub fn slot_ok(s: Shape, p: u64, a: &[i64]) -> bool
     row(s.levels, k, d, z, p, a, 0)
 }
 
-// 0, 1, 2 or 3
+// Number 1 to 3 or 0, of a tower.
 pub fn tower_number(p: i64, n: i64, e: [i64; 4], t: &[i64]) -> usize
     ensures { λ r. ⌜ r ≡ towerNumber p n e (now (t .entry)) ⌝ }
 {
@@ -126,7 +128,7 @@ pub fn tower_number(p: i64, n: i64, e: [i64; 4], t: &[i64]) -> usize
     0
 }
 
-// 0 to 5
+// Number 1 to 5 or 0, of a tower and a slot over it.
 pub fn slot_number(p: i64, n: i64, e: [i64; 4], t: &[i64], a: &[i64]) -> usize
     ensures { λ r. ⌜ r ≡ slotNumber p n e (now (t .entry)) (now (a .entry)) ⌝ }
 {
@@ -144,7 +146,7 @@ pub fn slot_number(p: i64, n: i64, e: [i64; 4], t: &[i64], a: &[i64]) -> usize
     0
 }
 
-// 0, 2 or 5
+// Number 2, 5 or 0, of what the work sizes take.
 pub fn work_number(n: i64, e: [i64; 4], a: i64, b: i64) -> usize
     ensures { λ r. ⌜ r ≡ workNumber n e a b ⌝ }
 {

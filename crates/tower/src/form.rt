@@ -14,6 +14,7 @@ use super::words::count_at;
 use super::words::same_word;
 use super::words::word_at;
 
+// The word at a place is from 0 to p - 1.
 pub fn residue(x: &[i64], a: usize, p: u64) -> bool
     requires { ⌜ a < length (now x) ⌝ }
     ensures { λ r. ⌜ r ≡ residueOk p (getD (now (x .entry)) a (pos 0)) ⌝ }
@@ -25,6 +26,7 @@ pub fn residue(x: &[i64], a: usize, p: u64) -> bool
     (g as u64) < p
 }
 
+// The word at a place is a degree from -1 to n - 1.
 pub fn degree_ok(x: &[i64], a: usize, n: usize) -> bool
     requires { ⌜ a < length (now x) ⌝ }
     ensures { λ r. ⌜ r ≡ degreeOk n (getD (now (x .entry)) a (pos 0)) ⌝ }
@@ -36,6 +38,7 @@ pub fn degree_ok(x: &[i64], a: usize, n: usize) -> bool
     count(g) <= n
 }
 
+// An element of level i in form is zero precisely when its first word is 0, or -1 above level 0.
 pub fn zero_head(i: usize, x: &[i64], a: usize) -> bool
     requires { ⌜ a < length (now x) ⌝ }
     ensures { λ r. ⌜ r ≡ eqZ (getD (now (x .entry)) a (pos 0)) (headOf i) ⌝ }
@@ -47,6 +50,7 @@ pub fn zero_head(i: usize, x: &[i64], a: usize) -> bool
     same_word(g, -1)
 }
 
+// The k-th coefficient fits a degree word that counts c: the last of them is not zero, those behind it are.
 pub fn place(c: usize, k: usize, zero: bool) -> bool
     requires { ⌜ k + 1 < 2 ^ 64 ⌝ }
     ensures { λ r. ⌜ r ≡ placeOk c k zero ⌝ }
@@ -60,6 +64,7 @@ pub fn place(c: usize, k: usize, zero: bool) -> bool
     true
 }
 
+// Where the k-th coefficient of s words stands behind the degree word at a.
 pub fn slot(a: usize, k: usize, s: usize) -> usize
     requires { ⌜ a + 1 + k * s < 2 ^ 64 ⌝ }
     ensures { λ r. ⌜ r ≡ a + 1 + k * s ⌝ }
@@ -67,6 +72,7 @@ pub fn slot(a: usize, k: usize, s: usize) -> usize
     a + 1 + k * s
 }
 
+// The words from a on are an element of level i in form.
 pub fn element(i: usize, d: [usize; 4], z: [usize; 5], p: u64, x: &[i64], a: usize) -> bool
     requires { ⌜ Element i d z (now x) a ⌝ }
     ensures { λ r. ⌜ r ≡ inForm p d i (seg a (size d i) (now (x .entry))) ⌝ }
@@ -77,6 +83,7 @@ pub fn element(i: usize, d: [usize; 4], z: [usize; 5], p: u64, x: &[i64], a: usi
     row(i - 1, degree_at(d, i - 1), d, z, p, x, a)
 }
 
+// The words from a on are a degree word and n coefficients of level i, in form.
 pub fn row(i: usize, n: usize, d: [usize; 4], z: [usize; 5], p: u64, x: &[i64], a: usize) -> bool
     requires { ⌜ Row i n d z (now x) a ⌝ }
     ensures { λ r. ⌜ r ≡ slotForm p d i n (seg a (n * size d i + 1) (now (x .entry))) ⌝ }
@@ -100,6 +107,7 @@ pub fn row(i: usize, n: usize, d: [usize; 4], z: [usize; 5], p: u64, x: &[i64], 
     true
 }
 
+// The word at a place is the degree n.
 pub fn degree_is(x: &[i64], a: usize, n: usize) -> bool
     requires { ⌜ (a < length (now x)) × (n < 2 ^ 63) ⌝ }
     ensures { λ r. ⌜ r ≡ eqZ (getD (now (x .entry)) a (pos 0)) (pos n) ⌝ }
@@ -107,6 +115,7 @@ pub fn degree_is(x: &[i64], a: usize, n: usize) -> bool
     count_at(x, a) == n + 1
 }
 
+// An element of level i in form is 1 precisely when it begins so: degree 0 all the way down to the residue 1.
 pub fn one_at(i: usize, x: &[i64], a: usize) -> bool
     requires { ⌜ a + i < length (now x) ⌝ }
     ensures { λ r. ⌜ r ≡ oneHead i (drop a (now (x .entry))) ⌝ }
@@ -120,6 +129,7 @@ pub fn one_at(i: usize, x: &[i64], a: usize) -> bool
     one_at(i - 1, x, a + 1)
 }
 
+// The words are those of a tower: for each level from the highest, its degree word, d_i + 1 coefficients in form, the last of them 1.
 pub fn tower(n: usize, d: [usize; 4], z: [usize; 5], p: u64, t: &[i64]) -> bool
     requires { ⌜ Whole n d z (now t) ⌝ }
     ensures { λ r. ⌜ r ≡ towerForm p d n (now (t .entry)) ⌝ }

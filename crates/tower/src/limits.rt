@@ -4,6 +4,7 @@ ghost use Prim.Native.Nat.{_<_};
 ghost use Rattle.tower.specs.Limits.{pOk, levelsOk, degreeIn, degreesOk, slotLength, workDegree};
 use super::words::same_word;
 
+// p is from 2 to 2,147,483,647.
 pub fn p_ok(p: i64) -> bool
     ensures { λ r. ⌜ r ≡ pOk p ⌝ }
 {
@@ -13,6 +14,7 @@ pub fn p_ok(p: i64) -> bool
     p <= 2147483647
 }
 
+// N is from 0 to 4.
 pub fn levels_ok(n: i64) -> bool
     ensures { λ r. ⌜ r ≡ levelsOk n ⌝ }
 {
@@ -22,6 +24,7 @@ pub fn levels_ok(n: i64) -> bool
     n <= 4
 }
 
+// The degree of a level in use is from 2 to 64, every other is 0.
 pub fn degree_in(below: bool, g: i64) -> bool
     ensures { λ r. ⌜ r ≡ degreeIn below g ⌝ }
 {
@@ -34,6 +37,7 @@ pub fn degree_in(below: bool, g: i64) -> bool
     g <= 64
 }
 
+// The four degrees are those of n levels.
 pub fn degrees_ok(n: usize, e: [i64; 4]) -> bool
     ensures { λ r. ⌜ r ≡ degreesOk n e ⌝ }
 {
@@ -48,6 +52,7 @@ pub fn degrees_ok(n: usize, e: [i64; 4]) -> bool
     true
 }
 
+// A slot of l words has from 1 to 256 coefficients of s words behind its degree word, and no more than 65,536 words.
 pub fn slot_length(s: usize, l: usize) -> bool
     requires { ⌜ 0 < s ⌝ }
     ensures { λ r. ⌜ r ≡ slotLength s l ⌝ }
@@ -68,6 +73,7 @@ pub fn slot_length(s: usize, l: usize) -> bool
     l <= 65536
 }
 
+// A degree that the work sizes take: from -1 to 255.
 pub fn work_degree(g: i64) -> bool
     ensures { λ r. ⌜ r ≡ workDegree g ⌝ }
 {

@@ -7,6 +7,7 @@ ghost use Rattle.tower.specs.Limits.{degreesOf};
 ghost use Rattle.tower.specs.Ready.{Sized, Small, Levels};
 use super::words::nat;
 
+// The four degrees as numbers.
 pub fn degrees(e: [i64; 4]) -> [usize; 4]
     ensures { λ r. ⌜ r ≡ degreesOf e ⌝ }
 {
@@ -17,6 +18,7 @@ pub fn degrees(e: [i64; 4]) -> [usize; 4]
     [a, b, c, d]
 }
 
+// The size of an element whose level has degree d over elements of size s.
 pub fn next(d: usize, s: usize) -> usize
     requires { ⌜ (d ≤ 64) × (s < 2 ^ 40) ⌝ }
     ensures { λ r. ⌜ (r ≡ d * s + 1) × (r ≤ 64 * s + 1) ⌝ }
@@ -24,6 +26,7 @@ pub fn next(d: usize, s: usize) -> usize
     d * s + 1
 }
 
+// S_0 to S_4.
 pub fn sizes(d: [usize; 4]) -> [usize; 5]
     requires { ⌜ Small d ⌝ }
     ensures { λ r. ⌜ Sized d r ⌝ }
@@ -35,6 +38,7 @@ pub fn sizes(d: [usize; 4]) -> [usize; 5]
     [1, a, b, c, e]
 }
 
+// S_i.
 pub fn size_at(z: [usize; 5], i: usize) -> usize
     requires { ⌜ i < 5 ⌝ }
     ensures { λ r. ⌜ r ≡ getD z i 0 ⌝ }
@@ -42,6 +46,7 @@ pub fn size_at(z: [usize; 5], i: usize) -> usize
     z[i]
 }
 
+// The degree of level i + 1.
 pub fn degree_at(d: [usize; 4], i: usize) -> usize
     requires { ⌜ i < 4 ⌝ }
     ensures { λ r. ⌜ r ≡ getD d i 0 ⌝ }
@@ -49,6 +54,7 @@ pub fn degree_at(d: [usize; 4], i: usize) -> usize
     d[i]
 }
 
+// The words of a tower: each level has its degree word and d_i + 1 coefficients.
 pub fn tower_size(n: usize, d: [usize; 4]) -> usize
     requires { ⌜ Levels n d ⌝ }
     ensures { λ r. ⌜ r ≡ towerSize d n ⌝ }

@@ -7,6 +7,7 @@ ghost use Rattle.residue.specs.Word.{num};
 ghost use Rattle.tower.specs.Form.{eqZ};
 ghost use Rattle.tower.specs.Lists.{countOf};
 
+// The word at a place.
 pub fn word_at(x: &[i64], a: usize) -> i64
     requires { ⌜ a < length (now x) ⌝ }
     ensures { λ r. ⌜ r ≡ getD (now (x .entry)) a (pos 0) ⌝ }
@@ -14,6 +15,7 @@ pub fn word_at(x: &[i64], a: usize) -> i64
     x[a]
 }
 
+// The number that a word holds, 0 for a negative one.
 pub fn nat(g: i64) -> usize
     ensures { λ r. ⌜ r ≡ num g ⌝ }
 {
@@ -23,12 +25,14 @@ pub fn nat(g: i64) -> usize
     g as usize
 }
 
+// Whether two words are equal.
 pub fn same_word(g: i64, h: i64) -> bool
     ensures { λ r. ⌜ r ≡ eqZ g h ⌝ }
 {
     g == h
 }
 
+// The coefficients up to the highest, from a degree word: one more than the degree, 0 for zero.
 pub fn count(g: i64) -> usize
     ensures { λ r. ⌜ r ≡ countOf g ⌝ }
 {
@@ -38,6 +42,7 @@ pub fn count(g: i64) -> usize
     (g as usize) + 1
 }
 
+// The same of the degree word at a place.
 pub fn count_at(x: &[i64], a: usize) -> usize
     requires { ⌜ a < length (now x) ⌝ }
     ensures { λ r. ⌜ r ≡ countOf (getD (now (x .entry)) a (pos 0)) ⌝ }
@@ -45,6 +50,7 @@ pub fn count_at(x: &[i64], a: usize) -> usize
     count(word_at(x, a))
 }
 
+// The modulus as a number.
 pub fn as_p(p: i64) -> u64
     ensures { λ r. ⌜ r ≡ num p ⌝ }
 {

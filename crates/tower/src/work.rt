@@ -6,6 +6,7 @@ ghost use Rattle.tower.specs.Ready.{Degrees};
 use super::sizes::degree_at;
 use super::sizes::next;
 
+// The words of a slot of c coefficients of s words.
 pub fn room(c: usize, s: usize) -> usize
     requires { ⌜ (c ≤ 256) × (s < 2 ^ 40) ⌝ }
     ensures { λ r. ⌜ (r ≡ c * s + 1) × (r ≤ 256 * s + 1) ⌝ }
@@ -13,6 +14,7 @@ pub fn room(c: usize, s: usize) -> usize
     c * s + 1
 }
 
+// M(n).
 pub fn product_work(n: usize, d: [usize; 4]) -> usize
     requires { ⌜ Degrees n d ⌝ }
     ensures { λ r. ⌜ (r ≡ productWork d n) ⌝ }
@@ -30,6 +32,7 @@ pub fn product_work(n: usize, d: [usize; 4]) -> usize
     r
 }
 
+// I(n).
 pub fn inverse_work(n: usize, d: [usize; 4]) -> usize
     requires { ⌜ Degrees n d ⌝ }
     ensures { λ r. ⌜ (r ≡ inverseWork d n) × (r ≤ 2 ^ 60) ⌝ }
@@ -47,6 +50,7 @@ pub fn inverse_work(n: usize, d: [usize; 4]) -> usize
     r
 }
 
+// The GCD's number, for a and b of ca and cb coefficients of s words and an inverse that needs i words.
 pub fn gcd_work(ca: usize, cb: usize, s: usize, i: usize) -> usize
     requires { ⌜ ((ca ≤ 256) × (cb ≤ 256)) × ((s < 2 ^ 40) × (i ≤ 2 ^ 60)) ⌝ }
     ensures { λ r. ⌜ r ≡ ca * s + 1 + (cb * s + 1) + 2 * s + i ⌝ }

@@ -1,4 +1,4 @@
-use Rattle.kernel.proofs.Shapes.{of-words}
+use Rattle.kernel.proofs.Told.{of-words}
 use Rattle.kernel.specs.Calls.{towerNumber}
 use Rattle.kernel.specs.Refusals.{refusal}
 use mathlib.Core.Path.{ap, _∙_}
@@ -10,15 +10,12 @@ use Rattle.kernel.proofs.check_tower.Lts as lts
 use Rattle.kernel.proofs.numbers.answer.Reads as answer-reads
 use Rattle.kernel.proofs.numbers.tower_number.Reads as tower-number-reads
 
--- src/lib.rt:31:12
 tower-number-requires : tie.Need-tower-number-requires
 tower-number-requires c κs = search needs
 
--- src/lib.rt:31:5
 answer-requires : tie.Need-answer-requires
 answer-requires c κs = search needs
 
--- src/lib.rt:28:1
 returns : tie.Need-returns
 returns c =
     let s = c .before .before in

@@ -1,5 +1,6 @@
-use Rattle.kernel.proofs.Quotients.{p-range, p-told, e-told, fraction-p, fraction-e, fraction-found, quotient-plain}
-use Rattle.kernel.proofs.Shapes.{of-word}
+use Rattle.tower.specs.Limits.{pOk}
+use Rattle.kernel.proofs.Quotients.{p-range, e-told, fraction-p, fraction-e, fraction-found, quotient-plain}
+use Rattle.kernel.proofs.Told.{of-word, told}
 use Rattle.residue.specs.Word.{num}
 use Rattle.tower.specs.Lists.{of-true}
 use mathlib.Core.Path.{_∙_}
@@ -28,7 +29,7 @@ returns c =
     let p-ok = c .before .before .p-ok in
     let if1 = c .before .if1 in
     let no-fraction = c .no-fraction in
-    fraction-p (s .args .p) (s .args .n) (s .args .e) (no-fraction .result) (p-told (s .fits .p) (p-ok .result) false (p-ok .ensures) (not-true _ (if1 .taken))) (no-fraction .ensures)
+    fraction-p (s .args .p) (s .args .n) (s .args .e) (no-fraction .result) (told pOk (s .fits .p) (p-ok .ensures) (not-true _ (if1 .taken))) (no-fraction .ensures)
 
 no-fraction-requires-2 : tie.Need-no-fraction-requires-2
 no-fraction-requires-2 c κs = search needs
@@ -45,7 +46,7 @@ returns-2 c =
     (s .args .n)
     (s .args .e)
     (no-fraction2 .result)
-    (p-told (s .fits .p) (p-ok .result) true (p-ok .ensures) (not-false _ (if1 .left)))
+    (told pOk (s .fits .p) (p-ok .ensures) (not-false _ (if1 .left)))
     (e-told (s .fits .e) true (if2 .taken))
     (no-fraction2 .ensures)
 
@@ -61,7 +62,7 @@ quotient-requires c κs =
     let p-ok = c .before .before .before .before .p-ok in
     let if1 = c .before .before .before .if1 in
     let as-p = c .as-p in
-    p-range (s .args .p) (as-p .result) (as-p .ensures ∙ of-word num (s .fits .p)) (p-told (s .fits .p) (p-ok .result) true (p-ok .ensures) (not-false _ (if1 .left)))
+    p-range (s .args .p) (as-p .result) (as-p .ensures ∙ of-word num (s .fits .p)) (told pOk (s .fits .p) (p-ok .ensures) (not-false _ (if1 .left)))
 
 returns-3 : tie.Need-returns-3
 returns-3 c =
@@ -76,7 +77,7 @@ returns-3 c =
     (s .args .p)
     (s .args .n)
     (s .args .e)
-    (of-true _ (p-told (s .fits .p) (p-ok .result) true (p-ok .ensures) (not-false _ (if1 .left))))
+    (of-true _ (told pOk (s .fits .p) (p-ok .ensures) (not-false _ (if1 .left))))
     (e-told (s .fits .e) false (if2 .left))
     (quotient .result)
     (quotient-plain (quotient .result) (s .fits .n) (number .ensures ∙ of-word num (s .fits .e)) (as-p .ensures ∙ of-word num (s .fits .p)) (quotient .ensures))

@@ -1,5 +1,5 @@
 use Rattle.kernel.proofs.Quotients.{small-operand, unit-of, factor-of, shared-of}
-use Rattle.kernel.proofs.Shapes.{of-word}
+use Rattle.kernel.proofs.Told.{of-word}
 use Rattle.residue.specs.Word.{modZ}
 use mathlib.Core.Path.{refl, ap, _∙_}
 use Prim.Native.Nat.{_*_, _%_}
@@ -53,7 +53,8 @@ returns c =
       unit = u .given .0 .0;
       inverts = unit-of (s .args .p) _ (u .given .0 .0) (inverse .result) (u .given .1) (inverse .ensures);
       answer = refl;
-      residue = multiply .ensures .value ∙ ap (λ x. (x * u .given .0 .0) % s .args .p) (residue-of .ensures .value ∙ of-word (λ x. modZ x (s .args .p)) (s .fits .n));
+      residue = multiply .ensures .value
+          ∙ ap (λ x. (x * u .given .0 .0) % s .args .p) (residue-of .ensures .value ∙ of-word (λ x. modZ x (s .args .p)) (s .fits .n));
     }
 
 returns-2 : tie.Need-returns-2
@@ -62,7 +63,14 @@ returns-2 c =
     let inverse = c .before .before .before .inverse in
     let told = c .before .enum-told in
     let no-fraction = c .no-fraction in
-    shared-of (s .args .n) (s .args .e) (s .args .p) _ (no-fraction .result) (factor-of (s .args .p) _ _ (inverse .result) (told .given .1) (inverse .ensures)) (no-fraction .ensures)
+    shared-of
+    (s .args .n)
+    (s .args .e)
+    (s .args .p)
+    _
+    (no-fraction .result)
+    (factor-of (s .args .p) _ _ (inverse .result) (told .given .1) (inverse .ensures))
+    (no-fraction .ensures)
 
 pub quotient-spec : {M : Type 1} → statement M
 quotient-spec =

@@ -5,11 +5,9 @@ use Rattle.kernel.proofs.numbers.answer.Tie as tie
 use Rattle.kernel.proofs.numbers.answer.Reads as reads
 use Rattle.kernel.proofs.numbers.answer.Lts as lts
 
--- src/numbers.rt:23:9
 returns : tie.Need-returns
 returns c = search needs
 
--- src/numbers.rt:19:1
 returns-2 : tie.Need-returns-2
 returns-2 c = answer-some (c .before .args .number) (c .if1 .left)
 

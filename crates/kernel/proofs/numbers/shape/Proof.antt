@@ -1,10 +1,9 @@
+use Rattle.kernel.proofs.Told.{of-word, told}
 use Rattle.kernel.proofs.Range.{small-of, levels-low, shape-levels, shape-degrees, shape-fine, shape-big}
 use Rattle.residue.specs.Word.{num}
 use Rattle.tower.specs.Limits.{levelsOk}
 use borrow.Author.Tests.{not-true, not-false}
-use mir.ValLaws.{toZ-ofZ}
-use mir.Syntax.{w64}
-use mathlib.Core.Path.{sym, ap, _∙_}
+use mathlib.Core.Path.{sym, _∙_}
 use native.Mathlib.Omega.{arith}
 use borrow.Author.Needs.{needs}
 use Rattle.kernel.proofs.numbers.shape.Statement.{statement}
@@ -22,7 +21,11 @@ levels-ok-requires : tie.Need-levels-ok-requires
 levels-ok-requires c κs = search needs
 
 returns : tie.Need-returns
-returns c = shape-levels (c .before .before .args .n) (c .before .before .args .e) (ap levelsOk (sym (toZ-ofZ w64 (c .before .before .args .n) (c .before .before .fits .n))) ∙ sym (c .before .levels-ok .ensures) ∙ not-true _ (c .if1 .taken))
+returns c =
+    let s = c .before .before in
+    let levels-ok = c .before .levels-ok in
+    let if1 = c .if1 in
+    shape-levels (s .args .n) (s .args .e) (told levelsOk (s .fits .n) (levels-ok .ensures) (not-true _ (if1 .taken)))
 
 nat-requires : tie.Need-nat-requires
 nat-requires c κs = search needs
@@ -31,22 +34,90 @@ degrees-ok-requires : tie.Need-degrees-ok-requires
 degrees-ok-requires c κs = search needs
 
 returns-2 : tie.Need-returns-2
-returns-2 c = shape-degrees (c .before .before .before .before .before .args .n) (c .before .before .before .before .before .args .e) (c .before .before .nat .result) (c .before .before .nat .ensures ∙ ap num (toZ-ofZ w64 (c .before .before .before .before .before .args .n) (c .before .before .before .before .before .fits .n))) (ap levelsOk (sym (toZ-ofZ w64 (c .before .before .before .before .before .args .n) (c .before .before .before .before .before .fits .n))) ∙ sym (c .before .before .before .before .levels-ok .ensures) ∙ not-false _ (c .before .before .before .if1 .left)) (sym (c .before .degrees-ok .ensures) ∙ not-true _ (c .if2 .taken))
+returns-2 c =
+    let s = c .before .before .before .before .before in
+    let levels-ok = c .before .before .before .before .levels-ok in
+    let if1 = c .before .before .before .if1 in
+    let nat = c .before .before .nat in
+    let degrees-ok = c .before .degrees-ok in
+    let if2 = c .if2 in
+    shape-degrees
+    (s .args .n)
+    (s .args .e)
+    (nat .result)
+    (nat .ensures ∙ of-word num (s .fits .n))
+    (told levelsOk (s .fits .n) (levels-ok .ensures) (not-false _ (if1 .left)))
+    (sym (degrees-ok .ensures) ∙ not-true _ (if2 .taken))
 
 degrees-requires : tie.Need-degrees-requires
 degrees-requires c κs = search needs
 
 sizes-requires : tie.Need-sizes-requires
-sizes-requires c κs = rw (c .degrees .ensures) (small-of (c .before .before .before .nat .result) (c .before .before .before .before .before .before .args .e) (sym (c .before .before .degrees-ok .ensures) ∙ not-false _ (c .before .if2 .left)))
+sizes-requires c κs =
+    let s = c .before .before .before .before .before .before in
+    let nat = c .before .before .before .nat in
+    let degrees-ok = c .before .before .degrees-ok in
+    let if2 = c .before .if2 in
+    let degrees = c .degrees in
+    rw (degrees .ensures) (small-of (nat .result) (s .args .e) (sym (degrees-ok .ensures) ∙ not-false _ (if2 .left)))
 
 size-at-requires : tie.Need-size-at-requires
-size-at-requires c κs = let h = levels-low (c .before .before .before .before .before .before .before .args .n) (ap levelsOk (sym (toZ-ofZ w64 (c .before .before .before .before .before .before .before .args .n) (c .before .before .before .before .before .before .before .fits .n))) ∙ sym (c .before .before .before .before .before .before .levels-ok .ensures) ∙ not-false _ (c .before .before .before .before .before .if1 .left)) in omega (arith, h, (c .before .before .before .before .nat .ensures ∙ ap num (toZ-ofZ w64 (c .before .before .before .before .before .before .before .args .n) (c .before .before .before .before .before .before .before .fits .n))))
+size-at-requires c κs =
+    let s = c .before .before .before .before .before .before .before in
+    let levels-ok = c .before .before .before .before .before .before .levels-ok in
+    let if1 = c .before .before .before .before .before .if1 in
+    let nat = c .before .before .before .before .nat in
+    omega (arith, levels-low (s .args .n) (told levelsOk (s .fits .n) (levels-ok .ensures) (not-false _ (if1 .left))), nat .ensures ∙ of-word num (s .fits .n))
 
 returns-3 : tie.Need-returns-3
-returns-3 c = shape-fine (c .before .before .before .before .before .before .before .before .before .args .n) (c .before .before .before .before .before .before .before .before .before .args .e) (c .before .before .before .before .before .before .nat .result) (c .before .before .sizes .result) (c .before .size-at .result) (c .before .before .before .before .before .before .nat .ensures ∙ ap num (toZ-ofZ w64 (c .before .before .before .before .before .before .before .before .before .args .n) (c .before .before .before .before .before .before .before .before .before .fits .n))) (ap levelsOk (sym (toZ-ofZ w64 (c .before .before .before .before .before .before .before .before .before .args .n) (c .before .before .before .before .before .before .before .before .before .fits .n))) ∙ sym (c .before .before .before .before .before .before .before .before .levels-ok .ensures) ∙ not-false _ (c .before .before .before .before .before .before .before .if1 .left)) (sym (c .before .before .before .before .before .degrees-ok .ensures) ∙ not-false _ (c .before .before .before .before .if2 .left)) (rw (c .before .before .before .degrees .ensures) at (c .before .before .sizes .ensures)) (c .before .size-at .ensures) (c .if3 .taken)
+returns-3 c =
+    let s = c .before .before .before .before .before .before .before .before .before in
+    let levels-ok = c .before .before .before .before .before .before .before .before .levels-ok in
+    let if1 = c .before .before .before .before .before .before .before .if1 in
+    let nat = c .before .before .before .before .before .before .nat in
+    let degrees-ok = c .before .before .before .before .before .degrees-ok in
+    let if2 = c .before .before .before .before .if2 in
+    let degrees = c .before .before .before .degrees in
+    let sizes = c .before .before .sizes in
+    let size-at = c .before .size-at in
+    let if3 = c .if3 in
+    shape-fine
+    (s .args .n)
+    (s .args .e)
+    (nat .result)
+    (sizes .result)
+    (size-at .result)
+    (nat .ensures ∙ of-word num (s .fits .n))
+    (told levelsOk (s .fits .n) (levels-ok .ensures) (not-false _ (if1 .left)))
+    (sym (degrees-ok .ensures) ∙ not-false _ (if2 .left))
+    (rw (degrees .ensures) at (sizes .ensures))
+    (size-at .ensures)
+    (if3 .taken)
 
 returns-4 : tie.Need-returns-4
-returns-4 c = shape-big (c .before .before .before .before .before .before .before .before .before .args .n) (c .before .before .before .before .before .before .before .before .before .args .e) (c .before .before .before .before .before .before .nat .result) (c .before .before .sizes .result) (c .before .size-at .result) (c .before .before .before .before .before .before .nat .ensures ∙ ap num (toZ-ofZ w64 (c .before .before .before .before .before .before .before .before .before .args .n) (c .before .before .before .before .before .before .before .before .before .fits .n))) (ap levelsOk (sym (toZ-ofZ w64 (c .before .before .before .before .before .before .before .before .before .args .n) (c .before .before .before .before .before .before .before .before .before .fits .n))) ∙ sym (c .before .before .before .before .before .before .before .before .levels-ok .ensures) ∙ not-false _ (c .before .before .before .before .before .before .before .if1 .left)) (sym (c .before .before .before .before .before .degrees-ok .ensures) ∙ not-false _ (c .before .before .before .before .if2 .left)) (rw (c .before .before .before .degrees .ensures) at (c .before .before .sizes .ensures)) (c .before .size-at .ensures) (c .if3 .left)
+returns-4 c =
+    let s = c .before .before .before .before .before .before .before .before .before in
+    let levels-ok = c .before .before .before .before .before .before .before .before .levels-ok in
+    let if1 = c .before .before .before .before .before .before .before .if1 in
+    let nat = c .before .before .before .before .before .before .nat in
+    let degrees-ok = c .before .before .before .before .before .degrees-ok in
+    let if2 = c .before .before .before .before .if2 in
+    let degrees = c .before .before .before .degrees in
+    let sizes = c .before .before .sizes in
+    let size-at = c .before .size-at in
+    let if3 = c .if3 in
+    shape-big
+    (s .args .n)
+    (s .args .e)
+    (nat .result)
+    (sizes .result)
+    (size-at .result)
+    (nat .ensures ∙ of-word num (s .fits .n))
+    (told levelsOk (s .fits .n) (levels-ok .ensures) (not-false _ (if1 .left)))
+    (sym (degrees-ok .ensures) ∙ not-false _ (if2 .left))
+    (rw (degrees .ensures) at (sizes .ensures))
+    (size-at .ensures)
+    (if3 .left)
 
 pub shape-spec : {M : Type 1} → statement M
 shape-spec =

@@ -1,7 +1,6 @@
-use mathlib.Core.Path.{ap, _∙_}
+use Rattle.kernel.proofs.Told.{of-word}
+use mathlib.Core.Path.{_∙_}
 use native.Mathlib.Omega.{arith}
-use mir.Syntax.{w64}
-use mir.ValLaws.{toZ-ofZ}
 use Rattle.kernel.proofs.Shapes.{shape-small, shape-low, shape-made}
 use Rattle.residue.specs.Word.{num}
 use borrow.Author.Needs.{needs}
@@ -26,14 +25,28 @@ sizes-requires c κs = let s = c .before .before in rw (c .degrees .ensures) (sh
 size-at-requires : tie.Need-size-at-requires
 size-at-requires c κs =
     let s = c .before .before .before in
-    omega (arith, shape-low (s .args .n) (s .args .e) (s .pre), c .before .before .nat .ensures ∙ ap num (toZ-ofZ w64 (s .args .n) (s .fits .n)))
+    let nat = c .before .before .nat in
+    omega (arith, shape-low (s .args .n) (s .args .e) (s .pre), nat .ensures ∙ of-word num (s .fits .n))
 
 returns : tie.Need-returns
 returns c =
     let s = c .before .before .before .before in
-    let levels = c .before .before .before .nat .ensures ∙ ap num (toZ-ofZ w64 (s .args .n) (s .fits .n)) in
-    shape-made (s .args .n) (s .args .e) (s .pre) (c .before .before .before .nat .result) (c .before .before .degrees .result) (c .before .sizes .result) (c .size-at .result)
-    levels (c .before .before .degrees .ensures) (c .before .sizes .ensures) (c .size-at .ensures)
+    let nat = c .before .before .before .nat in
+    let degrees = c .before .before .degrees in
+    let sizes = c .before .sizes in
+    let size-at = c .size-at in
+    shape-made
+    (s .args .n)
+    (s .args .e)
+    (s .pre)
+    (nat .result)
+    (degrees .result)
+    (sizes .result)
+    (size-at .result)
+    (nat .ensures ∙ of-word num (s .fits .n))
+    (degrees .ensures)
+    (sizes .ensures)
+    (size-at .ensures)
 
 pub shape-of-spec : {M : Type 1} → statement M
 shape-of-spec =

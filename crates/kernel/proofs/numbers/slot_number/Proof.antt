@@ -1,7 +1,8 @@
 use mir.Syntax.{w64}
 use mir.Val.{toZ, ofZ}
-use Rattle.kernel.proofs.Order.{slot-first, slot-short, slot-end}
-use Rattle.kernel.proofs.Shapes.{of-words, tower-zero, size-found, slot-found}
+use Rattle.kernel.proofs.Order.{slot-first}
+use Rattle.kernel.proofs.Shapes.{tower-zero, slot-unfit, slot-answered}
+use Rattle.kernel.proofs.Told.{of-words}
 use Rattle.kernel.specs.Calls.{slotNumber}
 use Rattle.kernel.specs.Refusals.{unless}
 use Rattle.tower.proofs.Rows.{size-pos}
@@ -50,7 +51,20 @@ returns-2 c =
     let shape-of = c .before .before .shape-of in
     let slot-length = c .before .slot-length in
     let if2 = c .if2 in
-    slot-short (toZ w64 (ofZ w64 (s .args .p))) _ (s .args .e) (s .args .t .now) (s .args .a .now) (tower-number .result) (tower-number .ensures) (if1 .left) (shape-of .result .size) (size-found (s .args .p) _ (s .args .e) (shape-of .result) (shape-of .ensures) _ refl) (sym (slot-length .ensures) ∙ not-true _ (if2 .taken))
+    slot-unfit
+    (toZ w64 (ofZ w64 (s .args .p)))
+    _
+    (s .args .e)
+    (shape-of .result)
+    (shape-of .ensures)
+    _
+    refl
+    (s .args .t .now)
+    (s .args .a .now)
+    (tower-number .result)
+    (tower-number .ensures)
+    (if1 .left)
+    (sym (slot-length .ensures) ∙ not-true _ (if2 .taken))
     ∙ of-words (λ x y. slotNumber x y (s .args .e) (s .args .t .now) (s .args .a .now)) (s .fits .p) (s .fits .n)
 
 as-p-requires : tie.Need-as-p-requires
@@ -75,8 +89,22 @@ returns-3 c =
     let slot-ok = c .before .slot-ok in
     let if3 = c .if3 in
     ap (λ b. unless b 5 0) (sym (not-true (slot-ok .result) (if3 .taken)))
-    ∙ slot-end (toZ w64 (ofZ w64 (s .args .p))) _ (s .args .e) (s .args .t .now) (s .args .a .now) (tower-number .result) (tower-number .ensures) (if1 .left) (shape-of .result .size) (size-found (s .args .p) _ (s .args .e) (shape-of .result) (shape-of .ensures) _ refl) (sym (slot-length .ensures) ∙ not-false _ (if2 .left))
-    (slot-ok .result) (slot-found (toZ w64 (ofZ w64 (s .args .p))) _ (s .args .e) (shape-of .result) (shape-of .ensures) (as-p .result) (as-p .ensures) (s .args .a .now) (slot-ok .result) (slot-ok .ensures))
+    ∙ slot-answered
+    (toZ w64 (ofZ w64 (s .args .p)))
+    _
+    (s .args .e)
+    (shape-of .result)
+    (shape-of .ensures)
+    (as-p .result)
+    (as-p .ensures)
+    (s .args .t .now)
+    (s .args .a .now)
+    (tower-number .result)
+    (tower-number .ensures)
+    (if1 .left)
+    (sym (slot-length .ensures) ∙ not-false _ (if2 .left))
+    (slot-ok .result)
+    (slot-ok .ensures)
     ∙ of-words (λ x y. slotNumber x y (s .args .e) (s .args .t .now) (s .args .a .now)) (s .fits .p) (s .fits .n)
 
 returns-4 : tie.Need-returns-4
@@ -91,8 +119,22 @@ returns-4 c =
     let slot-ok = c .before .slot-ok in
     let if3 = c .if3 in
     ap (λ b. unless b 5 0) (sym (not-false (slot-ok .result) (if3 .left)))
-    ∙ slot-end (toZ w64 (ofZ w64 (s .args .p))) _ (s .args .e) (s .args .t .now) (s .args .a .now) (tower-number .result) (tower-number .ensures) (if1 .left) (shape-of .result .size) (size-found (s .args .p) _ (s .args .e) (shape-of .result) (shape-of .ensures) _ refl) (sym (slot-length .ensures) ∙ not-false _ (if2 .left))
-    (slot-ok .result) (slot-found (toZ w64 (ofZ w64 (s .args .p))) _ (s .args .e) (shape-of .result) (shape-of .ensures) (as-p .result) (as-p .ensures) (s .args .a .now) (slot-ok .result) (slot-ok .ensures))
+    ∙ slot-answered
+    (toZ w64 (ofZ w64 (s .args .p)))
+    _
+    (s .args .e)
+    (shape-of .result)
+    (shape-of .ensures)
+    (as-p .result)
+    (as-p .ensures)
+    (s .args .t .now)
+    (s .args .a .now)
+    (tower-number .result)
+    (tower-number .ensures)
+    (if1 .left)
+    (sym (slot-length .ensures) ∙ not-false _ (if2 .left))
+    (slot-ok .result)
+    (slot-ok .ensures)
     ∙ of-words (λ x y. slotNumber x y (s .args .e) (s .args .t .now) (s .args .a .now)) (s .fits .p) (s .fits .n)
 
 pub slot-number-spec : {M : Type 1} → statement M

@@ -1,10 +1,12 @@
+use Rattle.kernel.specs.Refusals.{unless}
 use mir.Syntax.{w64}
 use mir.Val.{toZ, ofZ}
-use Rattle.kernel.proofs.Order.{tower-first, tower-bad, tower-fine}
-use Rattle.kernel.proofs.Shapes.{of-words, shape-zero, tower-found}
+use Rattle.kernel.proofs.Order.{tower-first}
+use Rattle.kernel.proofs.Shapes.{shape-zero, tower-answered}
+use Rattle.kernel.proofs.Told.{of-words}
 use Rattle.kernel.specs.Calls.{towerNumber}
 use borrow.Author.Tests.{not-true, not-false}
-use mathlib.Core.Path.{_∙_}
+use mathlib.Core.Path.{ap, sym, _∙_}
 use borrow.Author.Needs.{needs}
 use Rattle.kernel.proofs.numbers.tower_number.Statement.{statement}
 use Rattle.kernel.proofs.numbers.tower_number.Tie as tie
@@ -48,8 +50,21 @@ returns-2 c =
     let as-p = c .before .before .as-p in
     let tower-ok = c .before .tower-ok in
     let if2 = c .if2 in
-    tower-bad _ _ (s .args .e) (s .args .t .now) (base .result) (base .ensures) (if1 .left)
-    (tower-found (toZ w64 (ofZ w64 (s .args .p))) _ (s .args .e) (shape-of .result) (shape-of .ensures) (as-p .result) (as-p .ensures) (s .args .t .now) (tower-ok .result) (tower-ok .ensures) ∙ not-true _ (if2 .taken))
+    ap (λ b. unless b 3 0) (sym (not-true (tower-ok .result) (if2 .taken)))
+    ∙ tower-answered
+    (toZ w64 (ofZ w64 (s .args .p)))
+    _
+    (s .args .e)
+    (shape-of .result)
+    (shape-of .ensures)
+    (as-p .result)
+    (as-p .ensures)
+    (s .args .t .now)
+    (base .result)
+    (base .ensures)
+    (if1 .left)
+    (tower-ok .result)
+    (tower-ok .ensures)
     ∙ of-words (λ x y. towerNumber x y (s .args .e) (s .args .t .now)) (s .fits .p) (s .fits .n)
 
 returns-3 : tie.Need-returns-3
@@ -61,8 +76,21 @@ returns-3 c =
     let as-p = c .before .before .as-p in
     let tower-ok = c .before .tower-ok in
     let if2 = c .if2 in
-    tower-fine _ _ (s .args .e) (s .args .t .now) (base .result) (base .ensures) (if1 .left)
-    (tower-found (toZ w64 (ofZ w64 (s .args .p))) _ (s .args .e) (shape-of .result) (shape-of .ensures) (as-p .result) (as-p .ensures) (s .args .t .now) (tower-ok .result) (tower-ok .ensures) ∙ not-false _ (if2 .left))
+    ap (λ b. unless b 3 0) (sym (not-false (tower-ok .result) (if2 .left)))
+    ∙ tower-answered
+    (toZ w64 (ofZ w64 (s .args .p)))
+    _
+    (s .args .e)
+    (shape-of .result)
+    (shape-of .ensures)
+    (as-p .result)
+    (as-p .ensures)
+    (s .args .t .now)
+    (base .result)
+    (base .ensures)
+    (if1 .left)
+    (tower-ok .result)
+    (tower-ok .ensures)
     ∙ of-words (λ x y. towerNumber x y (s .args .e) (s .args .t .now)) (s .fits .p) (s .fits .n)
 
 pub tower-number-spec : {M : Type 1} → statement M

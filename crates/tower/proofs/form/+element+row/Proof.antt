@@ -78,7 +78,12 @@ element-residue-requires : (t : ℕ) → element-lts.Need-residue-requires (cs-e
 element-residue-requires t c κs = let s = c .before in let h = s .pre .1 in omega (arith, h .inside, size-pos (s .args .d) (s .args .i))
 
 element-returns : (t : ℕ) → element-lts.Need-returns (cs-element t) (element-at t) element.Post
-element-returns t c = let s = c .before .before in let h = s .pre .1 in element-low (s .args .p) (s .args .d) (s .args .x .now) (s .args .a) (s .args .i) (c .before .if1 .taken) (h .inside) (c .residue .result) (c .residue .ensures)
+element-returns t c =
+    let s = c .before .before in
+    let if1 = c .before .if1 in
+    let residue = c .residue in
+    let h = s .pre .1 in
+    element-low (s .args .p) (s .args .d) (s .args .x .now) (s .args .a) (s .args .i) (if1 .taken) (h .inside) (residue .result) (residue .ensures)
 
 element-sub-row : (t : ℕ) → element-lts.Need-sub-row (cs-element t) (element-at t) element.Post
 element-sub-row t c = omega arith
@@ -90,10 +95,33 @@ element-degree-at-requires : (t : ℕ) → element-lts.Need-degree-at-requires (
 element-degree-at-requires t c κs = let s = c .before in let h = s .pre .1 in omega (arith, h .low)
 
 element-row-requires : (t : ℕ) → element-lts.Need-row-requires (cs-element t) (element-at t) element.Post
-element-row-requires t c κs = let s = c .before .before in let h = s .pre .1 in let e = size-down (s .args .d) (s .args .i) (c .before .if1 .left) in let m : c .degree-at .result * size (s .args .d) (s .args .i - 1) ≡ getD (s .args .d) (s .args .i - 1) 0 * size (s .args .d) (s .args .i - 1) = ap (λ (x : ℕ). x * size (s .args .d) (s .args .i - 1)) (c .degree-at .ensures) in (omega (arith, s .pre .0), record { low = omega (arith, h .low); sized = h .sized; inside = omega (arith, h .inside, e, m) })
+element-row-requires t c κs =
+    let s = c .before .before in
+    let if1 = c .before .if1 in
+    let degree-at = c .degree-at in
+    let h = s .pre .1 in
+    let e = size-down (s .args .d) (s .args .i) (if1 .left) in
+    let m : degree-at .result * size (s .args .d) (s .args .i - 1) ≡ getD (s .args .d) (s .args .i - 1) 0 * size (s .args .d) (s .args .i - 1) = ap (λ (x : ℕ). x * size (s .args .d) (s .args .i - 1)) (degree-at .ensures) in
+    (omega (arith, s .pre .0), record { low = omega (arith, h .low); sized = h .sized; inside = omega (arith, h .inside, e, m) })
 
 element-returns-2 : (t : ℕ) → element-lts.Need-returns-2 (cs-element t) (element-at t) element.Post
-element-returns-2 t c = let s = c .before .before .before in let h = s .pre .1 in element-up (s .args .p) (s .args .d) (s .args .x .now) (s .args .a) (s .args .i) (c .before .before .if1 .left) (c .before .degree-at .result) (c .before .degree-at .ensures) (c .row .result) (c .row .ensures)
+element-returns-2 t c =
+    let s = c .before .before .before in
+    let if1 = c .before .before .if1 in
+    let degree-at = c .before .degree-at in
+    let row = c .row in
+    let h = s .pre .1 in
+    element-up
+    (s .args .p)
+    (s .args .d)
+    (s .args .x .now)
+    (s .args .a)
+    (s .args .i)
+    (if1 .left)
+    (degree-at .result)
+    (degree-at .ensures)
+    (row .result)
+    (row .ensures)
 
 abbrev row-Inv-loop : row-lts.InvT-loop
 row-Inv-loop i n d z p x a c s k₀ k = (k ≤ n) × (allTo k (coefficientAt p d i x a) ≡ true)
@@ -105,34 +133,151 @@ row-degree-ok-requires : (t : ℕ) → row-lts.Need-degree-ok-requires (cs-row t
 row-degree-ok-requires t c κs = let s = c in let h = s .pre .1 in omega (arith, h .inside)
 
 row-returns : (t : ℕ) → row-lts.Need-returns (cs-row t) (row-at t) row.Post row-Inv-loop row-μ-loop
-row-returns t c = let s = c .before .before in let h = s .pre .1 in bad-degree (s .args .p) (s .args .d) (s .args .i) (s .args .n) (s .args .x .now) (s .args .a) (h .inside) (sym (c .before .degree-ok .ensures) ∙ not-true _ (c .if1 .taken))
+row-returns t c =
+    let s = c .before .before in
+    let degree-ok = c .before .degree-ok in
+    let if1 = c .if1 in
+    let h = s .pre .1 in
+    bad-degree (s .args .p) (s .args .d) (s .args .i) (s .args .n) (s .args .x .now) (s .args .a) (h .inside) (sym (degree-ok .ensures) ∙ not-true _ (if1 .taken))
 
 row-count-at-requires : (t : ℕ) → row-lts.Need-count-at-requires (cs-row t) (row-at t) row.Post row-Inv-loop row-μ-loop
 row-count-at-requires t c κs = let s = c .before .before in let h = s .pre .1 in omega (arith, h .inside)
 
 row-size-at-requires : (t : ℕ) → row-lts.Need-size-at-requires (cs-row t) (row-at t) row.Post row-Inv-loop row-μ-loop
-row-size-at-requires t c κs = let s = c .before .before .before in let h = s .pre .1 in omega (arith, h .low)
+row-size-at-requires t c κs =
+    let s = c .before .before .before in
+    let h = s .pre .1 in
+    omega (arith, h .low)
 
 row-loop-holds : (t : ℕ) → row-lts.Need-loop-holds (cs-row t) (row-at t) row.Post row-Inv-loop row-μ-loop
 row-loop-holds t c = (omega arith, refl)
 
 row-slot-requires : (t : ℕ) → row-lts.Need-slot-requires (cs-row t) (row-at t) row.Post row-Inv-loop row-μ-loop
-row-slot-requires t c κs = let s = c .before .before .before .before .before .before in let h = s .pre .1 in let es : c .before .before .size-at .result ≡ size (s .args .d) (s .args .i) = c .before .before .size-at .ensures ∙ h .sized .at (s .args .i) (h .low) in let k = c .before .loop .k in let q = row-fits k (s .args .n) (size (s .args .d) (s .args .i)) (c .loop-test .taken) in let ek : k * c .before .before .size-at .result ≡ k * size (s .args .d) (s .args .i) = ap (λ (m : ℕ). k * m) es in omega (arith, h .inside, q, ek, s .good)
+row-slot-requires t c κs =
+    let s = c .before .before .before .before .before .before in
+    let size-at = c .before .before .size-at in
+    let loop = c .before .loop in
+    let loop-test = c .loop-test in
+    let h = s .pre .1 in
+    let es : size-at .result ≡ size (s .args .d) (s .args .i) = size-at .ensures ∙ h .sized .at (s .args .i) (h .low) in
+    let k = loop .k in
+    let q = row-fits k (s .args .n) (size (s .args .d) (s .args .i)) (loop-test .taken) in
+    let ek : k * size-at .result ≡ k * size (s .args .d) (s .args .i) = ap (λ (m : ℕ). k * m) es in
+    omega (arith, h .inside, q, ek, s .good)
 
 row-element-requires : (t : ℕ) → row-lts.Need-element-requires (cs-row t) (row-at t) row.Post row-Inv-loop row-μ-loop
-row-element-requires t c κs = let s = c .before .before .before .before .before .before .before in let h = s .pre .1 in let es : c .before .before .before .size-at .result ≡ size (s .args .d) (s .args .i) = c .before .before .before .size-at .ensures ∙ h .sized .at (s .args .i) (h .low) in let k = c .before .before .loop .k in let q = row-fits k (s .args .n) (size (s .args .d) (s .args .i)) (c .before .loop-test .taken) in let ek : k * c .before .before .before .size-at .result ≡ k * size (s .args .d) (s .args .i) = ap (λ (m : ℕ). k * m) es in (omega (arith, s .pre .0), record { low = h .low; sized = h .sized; inside = omega (arith, h .inside, q, ek, c .slot .ensures) })
+row-element-requires t c κs =
+    let s = c .before .before .before .before .before .before .before in
+    let size-at = c .before .before .before .size-at in
+    let loop = c .before .before .loop in
+    let loop-test = c .before .loop-test in
+    let slot = c .slot in
+    let h = s .pre .1 in
+    let es : size-at .result ≡ size (s .args .d) (s .args .i) = size-at .ensures ∙ h .sized .at (s .args .i) (h .low) in
+    let k = loop .k in
+    let q = row-fits k (s .args .n) (size (s .args .d) (s .args .i)) (loop-test .taken) in
+    let ek : k * size-at .result ≡ k * size (s .args .d) (s .args .i) = ap (λ (m : ℕ). k * m) es in
+    (omega (arith, s .pre .0), record { low = h .low; sized = h .sized; inside = omega (arith, h .inside, q, ek, slot .ensures) })
 
 row-returns-2 : (t : ℕ) → row-lts.Need-returns-2 (cs-row t) (row-at t) row.Post row-Inv-loop row-μ-loop
-row-returns-2 t c = let s = c .before .before .before .before .before .before .before .before .before in let h = s .pre .1 in let es : c .before .before .before .before .before .size-at .result ≡ size (s .args .d) (s .args .i) = c .before .before .before .before .before .size-at .ensures ∙ h .sized .at (s .args .i) (h .low) in let k = c .before .before .before .before .loop .k in let q = row-fits k (s .args .n) (size (s .args .d) (s .args .i)) (c .before .before .before .loop-test .taken) in let ek : k * c .before .before .before .before .before .size-at .result ≡ k * size (s .args .d) (s .args .i) = ap (λ (m : ℕ). k * m) es in bad-element (s .args .p) (s .args .d) (s .args .i) (s .args .n) (s .args .x .now) (s .args .a) (h .inside) (sym (c .before .before .before .before .before .before .before .before .degree-ok .ensures) ∙ not-false _ (c .before .before .before .before .before .before .before .if1 .left)) k (c .before .before .slot .result) (c .before .before .before .before .before .before .count-at .result) (c .before .before .before .loop-test .taken) (c .before .before .slot .ensures ∙ ap (λ (m : ℕ). s .args .a + 1 + m) ek) (c .before .before .before .before .before .before .count-at .ensures) (c .before .element .result) (c .before .element .ensures) (not-true _ (c .if2 .taken))
+row-returns-2 t c =
+    let s = c .before .before .before .before .before .before .before .before .before in
+    let degree-ok = c .before .before .before .before .before .before .before .before .degree-ok in
+    let if1 = c .before .before .before .before .before .before .before .if1 in
+    let count-at = c .before .before .before .before .before .before .count-at in
+    let size-at = c .before .before .before .before .before .size-at in
+    let loop = c .before .before .before .before .loop in
+    let loop-test = c .before .before .before .loop-test in
+    let slot = c .before .before .slot in
+    let element = c .before .element in
+    let if2 = c .if2 in
+    let h = s .pre .1 in
+    let es : size-at .result ≡ size (s .args .d) (s .args .i) = size-at .ensures ∙ h .sized .at (s .args .i) (h .low) in
+    let k = loop .k in
+    let q = row-fits k (s .args .n) (size (s .args .d) (s .args .i)) (loop-test .taken) in
+    let ek : k * size-at .result ≡ k * size (s .args .d) (s .args .i) = ap (λ (m : ℕ). k * m) es in
+    bad-element
+    (s .args .p)
+    (s .args .d)
+    (s .args .i)
+    (s .args .n)
+    (s .args .x .now)
+    (s .args .a)
+    (h .inside)
+    (sym (degree-ok .ensures) ∙ not-false _ (if1 .left))
+    k
+    (slot .result)
+    (count-at .result)
+    (loop-test .taken)
+    (slot .ensures ∙ ap (λ (m : ℕ). s .args .a + 1 + m) ek)
+    (count-at .ensures)
+    (element .result)
+    (element .ensures)
+    (not-true _ (if2 .taken))
 
 row-zero-head-requires : (t : ℕ) → row-lts.Need-zero-head-requires (cs-row t) (row-at t) row.Post row-Inv-loop row-μ-loop
-row-zero-head-requires t c κs = let s = c .before .before .before .before .before .before .before .before .before in let h = s .pre .1 in let es : c .before .before .before .before .before .size-at .result ≡ size (s .args .d) (s .args .i) = c .before .before .before .before .before .size-at .ensures ∙ h .sized .at (s .args .i) (h .low) in let k = c .before .before .before .before .loop .k in let q = row-fits k (s .args .n) (size (s .args .d) (s .args .i)) (c .before .before .before .loop-test .taken) in let ek : k * c .before .before .before .before .before .size-at .result ≡ k * size (s .args .d) (s .args .i) = ap (λ (m : ℕ). k * m) es in omega (arith, h .inside, q, ek, c .before .before .slot .ensures, size-pos (s .args .d) (s .args .i))
+row-zero-head-requires t c κs =
+    let s = c .before .before .before .before .before .before .before .before .before in
+    let size-at = c .before .before .before .before .before .size-at in
+    let loop = c .before .before .before .before .loop in
+    let loop-test = c .before .before .before .loop-test in
+    let slot = c .before .before .slot in
+    let h = s .pre .1 in
+    let es : size-at .result ≡ size (s .args .d) (s .args .i) = size-at .ensures ∙ h .sized .at (s .args .i) (h .low) in
+    let k = loop .k in
+    let q = row-fits k (s .args .n) (size (s .args .d) (s .args .i)) (loop-test .taken) in
+    let ek : k * size-at .result ≡ k * size (s .args .d) (s .args .i) = ap (λ (m : ℕ). k * m) es in
+    omega (arith, h .inside, q, ek, slot .ensures, size-pos (s .args .d) (s .args .i))
 
 row-place-requires : (t : ℕ) → row-lts.Need-place-requires (cs-row t) (row-at t) row.Post row-Inv-loop row-μ-loop
-row-place-requires t c κs = let s = c .before .before .before .before .before .before .before .before .before .before in let h = s .pre .1 in let k = c .before .before .before .before .before .loop .k in let q = row-fits k (s .args .n) (size (s .args .d) (s .args .i)) (c .before .before .before .before .loop-test .taken) in omega (arith, h .inside, q, s .good, size-pos (s .args .d) (s .args .i))
+row-place-requires t c κs =
+    let s = c .before .before .before .before .before .before .before .before .before .before in
+    let loop = c .before .before .before .before .before .loop in
+    let loop-test = c .before .before .before .before .loop-test in
+    let h = s .pre .1 in
+    let k = loop .k in
+    let q = row-fits k (s .args .n) (size (s .args .d) (s .args .i)) (loop-test .taken) in
+    omega (arith, h .inside, q, s .good, size-pos (s .args .d) (s .args .i))
 
 row-returns-3 : (t : ℕ) → row-lts.Need-returns-3 (cs-row t) (row-at t) row.Post row-Inv-loop row-μ-loop
-row-returns-3 t c = let s = c .before .before .before .before .before .before .before .before .before .before .before .before in let h = s .pre .1 in let es : c .before .before .before .before .before .before .before .before .size-at .result ≡ size (s .args .d) (s .args .i) = c .before .before .before .before .before .before .before .before .size-at .ensures ∙ h .sized .at (s .args .i) (h .low) in let k = c .before .before .before .before .before .before .before .loop .k in let q = row-fits k (s .args .n) (size (s .args .d) (s .args .i)) (c .before .before .before .before .before .before .loop-test .taken) in let ek : k * c .before .before .before .before .before .before .before .before .size-at .result ≡ k * size (s .args .d) (s .args .i) = ap (λ (m : ℕ). k * m) es in bad-place (s .args .p) (s .args .d) (s .args .i) (s .args .n) (s .args .x .now) (s .args .a) (h .inside) (sym (c .before .before .before .before .before .before .before .before .before .before .before .degree-ok .ensures) ∙ not-false _ (c .before .before .before .before .before .before .before .before .before .before .if1 .left)) k (c .before .before .before .before .before .slot .result) (c .before .before .before .before .before .before .before .before .before .count-at .result) (c .before .before .before .before .before .before .loop-test .taken) (c .before .before .before .before .before .slot .ensures ∙ ap (λ (m : ℕ). s .args .a + 1 + m) ek) (c .before .before .before .before .before .before .before .before .before .count-at .ensures) (size-pos (s .args .d) (s .args .i)) (c .before .before .zero-head .result) (c .before .before .zero-head .ensures) (c .before .place .result) (c .before .place .ensures) (not-true _ (c .if3 .taken))
+row-returns-3 t c =
+    let s = c .before .before .before .before .before .before .before .before .before .before .before .before in
+    let degree-ok = c .before .before .before .before .before .before .before .before .before .before .before .degree-ok in
+    let if1 = c .before .before .before .before .before .before .before .before .before .before .if1 in
+    let count-at = c .before .before .before .before .before .before .before .before .before .count-at in
+    let size-at = c .before .before .before .before .before .before .before .before .size-at in
+    let loop = c .before .before .before .before .before .before .before .loop in
+    let loop-test = c .before .before .before .before .before .before .loop-test in
+    let slot = c .before .before .before .before .before .slot in
+    let zero-head = c .before .before .zero-head in
+    let place = c .before .place in
+    let if3 = c .if3 in
+    let h = s .pre .1 in
+    let es : size-at .result ≡ size (s .args .d) (s .args .i) = size-at .ensures ∙ h .sized .at (s .args .i) (h .low) in
+    let k = loop .k in
+    let q = row-fits k (s .args .n) (size (s .args .d) (s .args .i)) (loop-test .taken) in
+    let ek : k * size-at .result ≡ k * size (s .args .d) (s .args .i) = ap (λ (m : ℕ). k * m) es in
+    bad-place
+    (s .args .p)
+    (s .args .d)
+    (s .args .i)
+    (s .args .n)
+    (s .args .x .now)
+    (s .args .a)
+    (h .inside)
+    (sym (degree-ok .ensures) ∙ not-false _ (if1 .left))
+    k
+    (slot .result)
+    (count-at .result)
+    (loop-test .taken)
+    (slot .ensures ∙ ap (λ (m : ℕ). s .args .a + 1 + m) ek)
+    (count-at .ensures)
+    (size-pos (s .args .d) (s .args .i))
+    (zero-head .result)
+    (zero-head .ensures)
+    (place .result)
+    (place .ensures)
+    (not-true _ (if3 .taken))
 
 row-add-k : (t : ℕ) → row-lts.Need-add-k (cs-row t) (row-at t) row.Post row-Inv-loop row-μ-loop
 row-add-k t c = omega arith
@@ -141,10 +286,71 @@ row-loop-less : (t : ℕ) → row-lts.Need-loop-less (cs-row t) (row-at t) row.P
 row-loop-less t c = omega arith
 
 row-loop-again : (t : ℕ) → row-lts.Need-loop-again (cs-row t) (row-at t) row.Post row-Inv-loop row-μ-loop
-row-loop-again t c = let s = c .before .before .before .before .before .before .before .before .before .before .before .before in let h = s .pre .1 in let es : c .before .before .before .before .before .before .before .before .size-at .result ≡ size (s .args .d) (s .args .i) = c .before .before .before .before .before .before .before .before .size-at .ensures ∙ h .sized .at (s .args .i) (h .low) in let k = c .before .before .before .before .before .before .before .loop .k in let q = row-fits k (s .args .n) (size (s .args .d) (s .args .i)) (c .before .before .before .before .before .before .loop-test .taken) in let ek : k * c .before .before .before .before .before .before .before .before .size-at .result ≡ k * size (s .args .d) (s .args .i) = ap (λ (m : ℕ). k * m) es in (omega arith, next (s .args .p) (s .args .d) (s .args .i) (s .args .n) (s .args .x .now) (s .args .a) (h .inside) (sym (c .before .before .before .before .before .before .before .before .before .before .before .degree-ok .ensures) ∙ not-false _ (c .before .before .before .before .before .before .before .before .before .before .if1 .left)) k (c .before .before .before .before .before .slot .result) (c .before .before .before .before .before .before .before .before .before .count-at .result) (c .before .before .before .before .before .before .loop-test .taken) (c .before .before .before .before .before .slot .ensures ∙ ap (λ (m : ℕ). s .args .a + 1 + m) ek) (c .before .before .before .before .before .before .before .before .before .count-at .ensures) (size-pos (s .args .d) (s .args .i)) (c .before .before .zero-head .result) (c .before .before .zero-head .ensures) (c .before .before .before .before .element .result) (c .before .place .result) (c .before .before .before .before .element .ensures) (not-false _ (c .before .before .before .if2 .left)) (c .before .place .ensures) (not-false _ (c .if3 .left)) (c .before .before .before .before .before .before .before .loop .inv .1))
+row-loop-again t c =
+    let s = c .before .before .before .before .before .before .before .before .before .before .before .before in
+    let degree-ok = c .before .before .before .before .before .before .before .before .before .before .before .degree-ok in
+    let if1 = c .before .before .before .before .before .before .before .before .before .before .if1 in
+    let count-at = c .before .before .before .before .before .before .before .before .before .count-at in
+    let size-at = c .before .before .before .before .before .before .before .before .size-at in
+    let loop = c .before .before .before .before .before .before .before .loop in
+    let loop-test = c .before .before .before .before .before .before .loop-test in
+    let slot = c .before .before .before .before .before .slot in
+    let element = c .before .before .before .before .element in
+    let if2 = c .before .before .before .if2 in
+    let zero-head = c .before .before .zero-head in
+    let place = c .before .place in
+    let if3 = c .if3 in
+    let h = s .pre .1 in
+    let es : size-at .result ≡ size (s .args .d) (s .args .i) = size-at .ensures ∙ h .sized .at (s .args .i) (h .low) in
+    let k = loop .k in
+    let q = row-fits k (s .args .n) (size (s .args .d) (s .args .i)) (loop-test .taken) in
+    let ek : k * size-at .result ≡ k * size (s .args .d) (s .args .i) = ap (λ (m : ℕ). k * m) es in (
+      omega arith,
+      next
+          (s .args .p)
+          (s .args .d)
+          (s .args .i)
+          (s .args .n)
+          (s .args .x .now)
+          (s .args .a)
+          (h .inside)
+          (sym (degree-ok .ensures) ∙ not-false _ (if1 .left))
+          k
+          (slot .result)
+          (count-at .result)
+          (loop-test .taken)
+          (slot .ensures ∙ ap (λ (m : ℕ). s .args .a + 1 + m) ek)
+          (count-at .ensures)
+          (size-pos (s .args .d) (s .args .i))
+          (zero-head .result)
+          (zero-head .ensures)
+          (element .result)
+          (place .result)
+          (element .ensures)
+          (not-false _ (if2 .left))
+          (place .ensures)
+          (not-false _ (if3 .left))
+          (loop .inv .1),
+    )
 
 row-returns-4 : (t : ℕ) → row-lts.Need-returns-4 (cs-row t) (row-at t) row.Post row-Inv-loop row-μ-loop
-row-returns-4 t c = let s = c .before .before .before .before .before .before in let h = s .pre .1 in let e : c .before .loop .k ≡ s .args .n = omega arith in finish (s .args .p) (s .args .d) (s .args .i) (s .args .n) (s .args .x .now) (s .args .a) (h .inside) (sym (c .before .before .before .before .before .degree-ok .ensures) ∙ not-false _ (c .before .before .before .before .if1 .left)) (rw e at (c .before .loop .inv .1))
+row-returns-4 t c =
+    let s = c .before .before .before .before .before .before in
+    let degree-ok = c .before .before .before .before .before .degree-ok in
+    let if1 = c .before .before .before .before .if1 in
+    let loop = c .before .loop in
+    let h = s .pre .1 in
+    let e : loop .k ≡ s .args .n = omega arith in
+    finish
+    (s .args .p)
+    (s .args .d)
+    (s .args .i)
+    (s .args .n)
+    (s .args .x .now)
+    (s .args .a)
+    (h .inside)
+    (sym (degree-ok .ensures) ∙ not-false _ (if1 .left))
+    (rw e at (loop .inv .1))
 
 pub +element+row-spec : {M : Type 1} → statement M
 +element+row-spec = close μ-element μ-row (λ t. element-lts.spec (cs-element t)

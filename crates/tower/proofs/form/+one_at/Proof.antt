@@ -44,7 +44,19 @@ one-at-same-word-requires : (t : ℕ) → one-at-lts.Need-same-word-requires (cs
 one-at-same-word-requires t c κs = search needs
 
 one-at-returns : (t : ℕ) → one-at-lts.Need-returns (cs-one-at t) (one-at-at t) one-at.Post
-one-at-returns t c = let s = c .before .before .before in let h = s .pre .1 in one-low (s .args .x .now) (s .args .a) (s .args .i) (c .before .before .if1 .taken) (c .same-word .result) (c .same-word .ensures ∙ ap (λ g. eqZ g (pos 1)) (toZ-ofZ w64 (c .before .word-at .result) (record { sfits = c .before .word-at .ok }) ∙ c .before .word-at .ensures))
+one-at-returns t c =
+    let s = c .before .before .before in
+    let if1 = c .before .before .if1 in
+    let word-at = c .before .word-at in
+    let same-word = c .same-word in
+    let h = s .pre .1 in
+    one-low
+    (s .args .x .now)
+    (s .args .a)
+    (s .args .i)
+    (if1 .taken)
+    (same-word .result)
+    (same-word .ensures ∙ ap (λ g. eqZ g (pos 1)) (toZ-ofZ w64 (word-at .result) (record { sfits = word-at .ok }) ∙ word-at .ensures))
 
 one-at-word-at-requires-2 : (t : ℕ) → one-at-lts.Need-word-at-requires-2 (cs-one-at t) (one-at-at t) one-at.Post
 one-at-word-at-requires-2 t c κs = let s = c .before in let h = s .pre .1 in omega (arith, h)
@@ -53,19 +65,57 @@ one-at-same-word-requires-2 : (t : ℕ) → one-at-lts.Need-same-word-requires-2
 one-at-same-word-requires-2 t c κs = search needs
 
 one-at-returns-2 : (t : ℕ) → one-at-lts.Need-returns-2 (cs-one-at t) (one-at-at t) one-at.Post
-one-at-returns-2 t c = let s = c .before .before .before .before in let h = s .pre .1 in one-bad (s .args .x .now) (s .args .a) (s .args .i) (c .before .before .before .if1 .left) (c .before .same-word2 .result) (c .before .same-word2 .ensures ∙ ap (λ g. eqZ g (pos 0)) (toZ-ofZ w64 (c .before .before .word-at2 .result) (record { sfits = c .before .before .word-at2 .ok }) ∙ c .before .before .word-at2 .ensures)) (not-true _ (c .if2 .taken))
+one-at-returns-2 t c =
+    let s = c .before .before .before .before in
+    let if1 = c .before .before .before .if1 in
+    let word-at2 = c .before .before .word-at2 in
+    let same-word2 = c .before .same-word2 in
+    let if2 = c .if2 in
+    let h = s .pre .1 in
+    one-bad
+    (s .args .x .now)
+    (s .args .a)
+    (s .args .i)
+    (if1 .left)
+    (same-word2 .result)
+    (same-word2 .ensures ∙ ap (λ g. eqZ g (pos 0)) (toZ-ofZ w64 (word-at2 .result) (record { sfits = word-at2 .ok }) ∙ word-at2 .ensures))
+    (not-true _ (if2 .taken))
 
 one-at-sub-one-at : (t : ℕ) → one-at-lts.Need-sub-one-at (cs-one-at t) (one-at-at t) one-at.Post
 one-at-sub-one-at t c = omega arith
 
 one-at-add-one-at : (t : ℕ) → one-at-lts.Need-add-one-at (cs-one-at t) (one-at-at t) one-at.Post
-one-at-add-one-at t c = let s = c .before .before .before .before in let h = s .pre .1 in omega (arith, h, s .good)
+one-at-add-one-at t c =
+    let s = c .before .before .before .before in
+    let h = s .pre .1 in
+    omega (arith, h, s .good)
 
 one-at-one-at-requires : (t : ℕ) → one-at-lts.Need-one-at-requires (cs-one-at t) (one-at-at t) one-at.Post
-one-at-one-at-requires t c κs = let s = c .before .before .before .before in let h = s .pre .1 in (omega (arith, s .pre .0, c .before .before .before .if1 .left), omega (arith, h, c .before .before .before .if1 .left))
+one-at-one-at-requires t c κs =
+    let s = c .before .before .before .before in
+    let if1 = c .before .before .before .if1 in
+    let h = s .pre .1 in
+    (omega (arith, s .pre .0, if1 .left), omega (arith, h, if1 .left))
 
 one-at-returns-3 : (t : ℕ) → one-at-lts.Need-returns-3 (cs-one-at t) (one-at-at t) one-at.Post
-one-at-returns-3 t c = let s = c .before .before .before .before .before in let h = s .pre .1 in one-up (s .args .x .now) (s .args .a) (s .args .i) (c .before .before .before .before .if1 .left) (c .before .before .same-word2 .result) (c .one-at .result) (c .before .before .same-word2 .ensures ∙ ap (λ g. eqZ g (pos 0)) (toZ-ofZ w64 (c .before .before .before .word-at2 .result) (record { sfits = c .before .before .before .word-at2 .ok }) ∙ c .before .before .before .word-at2 .ensures)) (not-false _ (c .before .if2 .left)) (c .one-at .ensures)
+one-at-returns-3 t c =
+    let s = c .before .before .before .before .before in
+    let if1 = c .before .before .before .before .if1 in
+    let word-at2 = c .before .before .before .word-at2 in
+    let same-word2 = c .before .before .same-word2 in
+    let if2 = c .before .if2 in
+    let one-at = c .one-at in
+    let h = s .pre .1 in
+    one-up
+    (s .args .x .now)
+    (s .args .a)
+    (s .args .i)
+    (if1 .left)
+    (same-word2 .result)
+    (one-at .result)
+    (same-word2 .ensures ∙ ap (λ g. eqZ g (pos 0)) (toZ-ofZ w64 (word-at2 .result) (record { sfits = word-at2 .ok }) ∙ word-at2 .ensures))
+    (not-false _ (if2 .left))
+    (one-at .ensures)
 
 pub +one-at-spec : {M : Type 1} → statement M
 +one-at-spec = close μ-one-at λ t. one-at-lts.spec (cs-one-at t)

@@ -15,7 +15,10 @@ add-result : tie.Need-add-result
 add-result c = search needs
 
 returns : tie.Need-returns
-returns c = degree-number (getD (c .before .args .x .now) (c .before .args .a) (pos 0)) (c .before .args .n) (c .count-at .result) (c .count-at .ensures)
+returns c =
+    let s = c .before in
+    let count-at = c .count-at in
+    degree-number (getD (s .args .x .now) (s .args .a) (pos 0)) (s .args .n) (count-at .result) (count-at .ensures)
 
 pub degree-is-spec : {M : Type 1} → statement M
 degree-is-spec = tie.close (tie.spec count-at-requires add-result returns)

@@ -16,13 +16,29 @@ word-at-requires : tie.Need-word-at-requires
 word-at-requires c κs = search needs
 
 returns : tie.Need-returns
-returns c = degree-low (c .before .word-at .result) (record { sfits = c .before .word-at .ok }) (c .before .before .args .n) (c .if1 .taken) ∙ ap (degreeOk (c .before .before .args .n)) (c .before .word-at .ensures)
+returns c =
+    let s = c .before .before in
+    let word-at = c .before .word-at in
+    let if1 = c .if1 in
+    degree-low (word-at .result) (record { sfits = word-at .ok }) (s .args .n) (if1 .taken) ∙ ap (degreeOk (s .args .n)) (word-at .ensures)
 
 count-requires : tie.Need-count-requires
 count-requires c κs = search needs
 
 returns-2 : tie.Need-returns-2
-returns-2 c = degree-high (c .before .before .word-at .result) (record { sfits = c .before .before .word-at .ok }) (c .before .before .before .args .n) (c .count .result) (c .count .ensures ∙ ap countOf (toZ-ofZ w64 (c .before .before .word-at .result) (record { sfits = c .before .before .word-at .ok }))) (c .before .if1 .left) ∙ ap (degreeOk (c .before .before .before .args .n)) (c .before .before .word-at .ensures)
+returns-2 c =
+    let s = c .before .before .before in
+    let word-at = c .before .before .word-at in
+    let if1 = c .before .if1 in
+    let count = c .count in
+    degree-high
+    (word-at .result)
+    (record { sfits = word-at .ok })
+    (s .args .n)
+    (count .result)
+    (count .ensures ∙ ap countOf (toZ-ofZ w64 (word-at .result) (record { sfits = word-at .ok })))
+    (if1 .left)
+    ∙ ap (degreeOk (s .args .n)) (word-at .ensures)
 
 pub degree-ok-spec : {M : Type 1} → statement M
 degree-ok-spec = tie.close (tie.spec word-at-requires returns count-requires returns-2)

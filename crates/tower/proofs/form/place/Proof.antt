@@ -9,13 +9,24 @@ add-if1 : tie.Need-add-if1
 add-if1 c = search needs
 
 returns : tie.Need-returns
-returns c = place-at (c .before .args .c) (c .before .args .k) (c .before .args .zero) (c .if1 .taken)
+returns c =
+    let s = c .before in
+    let if1 = c .if1 in
+    place-at (s .args .c) (s .args .k) (s .args .zero) (if1 .taken)
 
 returns-2 : tie.Need-returns-2
-returns-2 c = place-over (c .before .before .args .c) (c .before .before .args .k) (c .before .before .args .zero) (c .before .if1 .left) (c .if2 .taken)
+returns-2 c =
+    let s = c .before .before in
+    let if1 = c .before .if1 in
+    let if2 = c .if2 in
+    place-over (s .args .c) (s .args .k) (s .args .zero) (if1 .left) (if2 .taken)
 
 returns-3 : tie.Need-returns-3
-returns-3 c = place-under (c .before .before .args .c) (c .before .before .args .k) (c .before .before .args .zero) (c .before .if1 .left) (c .if2 .left)
+returns-3 c =
+    let s = c .before .before in
+    let if1 = c .before .if1 in
+    let if2 = c .if2 in
+    place-under (s .args .c) (s .args .k) (s .args .zero) (if1 .left) (if2 .left)
 
 pub place-spec : {M : Type 1} → statement M
 place-spec = tie.close (tie.spec add-if1 returns returns-2 returns-3)

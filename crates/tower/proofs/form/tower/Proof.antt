@@ -41,113 +41,217 @@ sub-degree-at : tie.Need-sub-degree-at Inv-loop μ-loop Inv-levels μ-levels
 sub-degree-at c = omega arith
 
 degree-at-requires : tie.Need-degree-at-requires Inv-loop μ-loop Inv-levels μ-levels
-degree-at-requires c κs = let s = c .before .before in let h = s .pre in let l = c .before .levels in let j = l .i - 1 in
+degree-at-requires c κs =
+    let s = c .before .before in
+    let levels = c .before .levels in
+    let h = s .pre in
+    let l = levels in
+    let j = l .i - 1 in
     omega (arith, h .low, l .inv .1)
 
 sub-size-at : tie.Need-sub-size-at Inv-loop μ-loop Inv-levels μ-levels
 sub-size-at c = omega arith
 
 size-at-requires : tie.Need-size-at-requires Inv-loop μ-loop Inv-levels μ-levels
-size-at-requires c κs = let s = c .before .before .before in let h = s .pre in let l = c .before .before .levels in let j = l .i - 1 in
+size-at-requires c κs =
+    let s = c .before .before .before in
+    let levels = c .before .before .levels in
+    let h = s .pre in
+    let l = levels in
+    let j = l .i - 1 in
     omega (arith, h .low, l .inv .1)
 
 degree-is-requires : tie.Need-degree-is-requires Inv-loop μ-loop Inv-levels μ-levels
-degree-is-requires c κs = let s = c .before .before .before .before in let h = s .pre in let l = c .before .before .before .levels in let j = l .i - 1 in
+degree-is-requires c κs =
+    let s = c .before .before .before .before in
+    let levels = c .before .before .before .levels in
+    let degree-at = c .before .degree-at in
+    let h = s .pre in
+    let l = levels in
+    let j = l .i - 1 in
     let ej : suc j ≡ l .i = omega arith in
     let fit = inside (s .args .p) (s .args .d) (s .args .n) (s .args .t .now) (l .a) (l .i) j ej (l .inv .2) in
-    let ms = modulus-size (s .args .d) j in let sp = size-pos (s .args .d) j in
-    let em = c .before .degree-at .ensures in
+    let ms = modulus-size (s .args .d) j in
+    let sp = size-pos (s .args .d) j in
+    let em = degree-at .ensures in
     (omega arith, omega (arith, under (getD (s .args .d) j 0) (size (s .args .d) j) sp, s .good))
 
 loop-holds : tie.Need-loop-holds Inv-loop μ-loop Inv-levels μ-levels
-loop-holds c = (c .before .before .before .before .before .levels .inv .0, omega arith, refl)
+loop-holds c =
+    let levels = c .before .before .before .before .before .levels in
+    (levels .inv .0, omega arith, refl)
 
 sub-element : tie.Need-sub-element Inv-loop μ-loop Inv-levels μ-levels
 sub-element c = omega arith
 
 slot-requires : tie.Need-slot-requires Inv-loop μ-loop Inv-levels μ-levels
-slot-requires c κs = let s = c .before .before .before .before .before .before .before .before in let h = s .pre in let l = c .before .before .before .before .before .before .before .levels in let j = l .i - 1 in
+slot-requires c κs =
+    let s = c .before .before .before .before .before .before .before .before in
+    let levels = c .before .before .before .before .before .before .before .levels in
+    let degree-at = c .before .before .before .before .before .degree-at in
+    let size-at = c .before .before .before .before .size-at in
+    let loop = c .before .loop in
+    let h = s .pre in
+    let l = levels in
+    let j = l .i - 1 in
     let ej : suc j ≡ l .i = omega arith in
     let fit = inside (s .args .p) (s .args .d) (s .args .n) (s .args .t .now) (l .a) (l .i) j ej (l .inv .2) in
-    let ms = modulus-size (s .args .d) j in let sp = size-pos (s .args .d) j in
-    let es : c .before .before .before .before .size-at .result ≡ size (s .args .d) j = c .before .before .before .before .size-at .ensures ∙ h .sized .at j (omega (arith, h .low, l .inv .1)) in
-    let em = c .before .before .before .before .before .degree-at .ensures in
-    let k = c .before .loop .k in let q = row-fits k (suc (getD (s .args .d) j 0)) (size (s .args .d) j) (omega arith) in let sm = suc-mul (getD (s .args .d) j 0) (size (s .args .d) j) in
-    let ek : k * c .before .before .before .before .size-at .result ≡ k * size (s .args .d) j = ap (λ (x : ℕ). k * x) es in
+    let ms = modulus-size (s .args .d) j in
+    let sp = size-pos (s .args .d) j in
+    let es : size-at .result ≡ size (s .args .d) j = size-at .ensures ∙ h .sized .at j (omega (arith, h .low, l .inv .1)) in
+    let em = degree-at .ensures in
+    let k = loop .k in
+    let q = row-fits k (suc (getD (s .args .d) j 0)) (size (s .args .d) j) (omega arith) in
+    let sm = suc-mul (getD (s .args .d) j 0) (size (s .args .d) j) in
+    let ek : k * size-at .result ≡ k * size (s .args .d) j = ap (λ (x : ℕ). k * x) es in
     omega (arith, s .good)
 
 element-requires : tie.Need-element-requires Inv-loop μ-loop Inv-levels μ-levels
-element-requires c κs = let s = c .before .before .before .before .before .before .before .before .before in let h = s .pre in let l = c .before .before .before .before .before .before .before .before .levels in let j = l .i - 1 in
+element-requires c κs =
+    let s = c .before .before .before .before .before .before .before .before .before in
+    let levels = c .before .before .before .before .before .before .before .before .levels in
+    let degree-at = c .before .before .before .before .before .before .degree-at in
+    let size-at = c .before .before .before .before .before .size-at in
+    let loop = c .before .before .loop in
+    let slot = c .slot in
+    let h = s .pre in
+    let l = levels in
+    let j = l .i - 1 in
     let ej : suc j ≡ l .i = omega arith in
     let fit = inside (s .args .p) (s .args .d) (s .args .n) (s .args .t .now) (l .a) (l .i) j ej (l .inv .2) in
-    let ms = modulus-size (s .args .d) j in let sp = size-pos (s .args .d) j in
-    let es : c .before .before .before .before .before .size-at .result ≡ size (s .args .d) j = c .before .before .before .before .before .size-at .ensures ∙ h .sized .at j (omega (arith, h .low, l .inv .1)) in
-    let em = c .before .before .before .before .before .before .degree-at .ensures in
-    let k = c .before .before .loop .k in let q = row-fits k (suc (getD (s .args .d) j 0)) (size (s .args .d) j) (omega arith) in let sm = suc-mul (getD (s .args .d) j 0) (size (s .args .d) j) in
-    let ek : k * c .before .before .before .before .before .size-at .result ≡ k * size (s .args .d) j = ap (λ (x : ℕ). k * x) es in
-    record { low = omega (arith, h .low, l .inv .1); sized = h .sized; inside = omega (arith, c .slot .ensures) }
+    let ms = modulus-size (s .args .d) j in
+    let sp = size-pos (s .args .d) j in
+    let es : size-at .result ≡ size (s .args .d) j = size-at .ensures ∙ h .sized .at j (omega (arith, h .low, l .inv .1)) in
+    let em = degree-at .ensures in
+    let k = loop .k in
+    let q = row-fits k (suc (getD (s .args .d) j 0)) (size (s .args .d) j) (omega arith) in
+    let sm = suc-mul (getD (s .args .d) j 0) (size (s .args .d) j) in
+    let ek : k * size-at .result ≡ k * size (s .args .d) j = ap (λ (x : ℕ). k * x) es in
+    record { low = omega (arith, h .low, l .inv .1); sized = h .sized; inside = omega (arith, slot .ensures) }
 
 add-k : tie.Need-add-k Inv-loop μ-loop Inv-levels μ-levels
-add-k c = let s = c .before .before .before .before .before .before .before .before .before .before .before in let h = s .pre in let l = c .before .before .before .before .before .before .before .before .before .before .levels in let j = l .i - 1 in
+add-k c =
+    let s = c .before .before .before .before .before .before .before .before .before .before .before in
+    let levels = c .before .before .before .before .before .before .before .before .before .before .levels in
+    let degree-at = c .before .before .before .before .before .before .before .before .degree-at in
+    let h = s .pre in
+    let l = levels in
+    let j = l .i - 1 in
     let ej : suc j ≡ l .i = omega arith in
     let fit = inside (s .args .p) (s .args .d) (s .args .n) (s .args .t .now) (l .a) (l .i) j ej (l .inv .2) in
-    let ms = modulus-size (s .args .d) j in let sp = size-pos (s .args .d) j in
-    let em = c .before .before .before .before .before .before .before .before .degree-at .ensures in
+    let ms = modulus-size (s .args .d) j in
+    let sp = size-pos (s .args .d) j in
+    let em = degree-at .ensures in
     omega (arith, under (getD (s .args .d) j 0) (size (s .args .d) j) sp, s .good)
 
 loop-less : tie.Need-loop-less Inv-loop μ-loop Inv-levels μ-levels
 loop-less c = omega arith
 
 loop-again : tie.Need-loop-again Inv-loop μ-loop Inv-levels μ-levels
-loop-again c = let s = c .before .before .before .before .before .before .before .before .before .before .before in let h = s .pre in let l = c .before .before .before .before .before .before .before .before .before .before .levels in let j = l .i - 1 in
+loop-again c =
+    let s = c .before .before .before .before .before .before .before .before .before .before .before in
+    let levels = c .before .before .before .before .before .before .before .before .before .before .levels in
+    let degree-at = c .before .before .before .before .before .before .before .before .degree-at in
+    let size-at = c .before .before .before .before .before .before .before .size-at in
+    let loop = c .before .before .before .before .loop in
+    let slot = c .before .before .slot in
+    let element = c .before .element in
+    let if2 = c .if2 in
+    let h = s .pre in
+    let l = levels in
+    let j = l .i - 1 in
     let ej : suc j ≡ l .i = omega arith in
     let fit = inside (s .args .p) (s .args .d) (s .args .n) (s .args .t .now) (l .a) (l .i) j ej (l .inv .2) in
-    let ms = modulus-size (s .args .d) j in let sp = size-pos (s .args .d) j in
-    let es : c .before .before .before .before .before .before .before .size-at .result ≡ size (s .args .d) j = c .before .before .before .before .before .before .before .size-at .ensures ∙ h .sized .at j (omega (arith, h .low, l .inv .1)) in
-    let em = c .before .before .before .before .before .before .before .before .degree-at .ensures in
-    let k = c .before .before .before .before .loop .k in let q = row-fits k (suc (getD (s .args .d) j 0)) (size (s .args .d) j) (omega arith) in let sm = suc-mul (getD (s .args .d) j 0) (size (s .args .d) j) in
-    let ek : k * c .before .before .before .before .before .before .before .size-at .result ≡ k * size (s .args .d) j = ap (λ (x : ℕ). k * x) es in
-    (c .before .before .before .before .loop .inv .0, omega arith, allTo-more k (elementAt (s .args .p) (s .args .d) j (s .args .t .now) (l .a)) (c .before .before .before .before .loop .inv .2) (ap (λ (x : ℕ). inForm (s .args .p) (s .args .d) j (seg x (size (s .args .d) j) (s .args .t .now))) (sym (c .before .before .slot .ensures ∙ ap (λ (x : ℕ). l .a + 1 + x) ek)) ∙ sym (c .before .element .ensures) ∙ not-false _ (c .if2 .left)))
+    let ms = modulus-size (s .args .d) j in
+    let sp = size-pos (s .args .d) j in
+    let es : size-at .result ≡ size (s .args .d) j = size-at .ensures ∙ h .sized .at j (omega (arith, h .low, l .inv .1)) in
+    let em = degree-at .ensures in
+    let k = loop .k in
+    let q = row-fits k (suc (getD (s .args .d) j 0)) (size (s .args .d) j) (omega arith) in
+    let sm = suc-mul (getD (s .args .d) j 0) (size (s .args .d) j) in
+    let ek : k * size-at .result ≡ k * size (s .args .d) j = ap (λ (x : ℕ). k * x) es in (
+      loop .inv .0,
+      omega arith,
+      allTo-more
+          k
+          (elementAt (s .args .p) (s .args .d) j (s .args .t .now) (l .a))
+          (loop .inv .2)
+          (ap (λ (x : ℕ). inForm (s .args .p) (s .args .d) j (seg x (size (s .args .d) j) (s .args .t .now))) (sym (slot .ensures ∙ ap (λ (x : ℕ). l .a + 1 + x) ek))
+          ∙ sym (element .ensures)
+          ∙ not-false _ (if2 .left)),
+    )
 
 sub-one-at : tie.Need-sub-one-at Inv-loop μ-loop Inv-levels μ-levels
 sub-one-at c = omega arith
 
 slot-requires-2 : tie.Need-slot-requires-2 Inv-loop μ-loop Inv-levels μ-levels
-slot-requires-2 c κs = let s = c .before .before .before .before .before .before .before .before in let h = s .pre in let l = c .before .before .before .before .before .before .before .levels in let j = l .i - 1 in
+slot-requires-2 c κs =
+    let s = c .before .before .before .before .before .before .before .before in
+    let levels = c .before .before .before .before .before .before .before .levels in
+    let degree-at = c .before .before .before .before .before .degree-at in
+    let size-at = c .before .before .before .before .size-at in
+    let h = s .pre in
+    let l = levels in
+    let j = l .i - 1 in
     let ej : suc j ≡ l .i = omega arith in
     let fit = inside (s .args .p) (s .args .d) (s .args .n) (s .args .t .now) (l .a) (l .i) j ej (l .inv .2) in
-    let ms = modulus-size (s .args .d) j in let sp = size-pos (s .args .d) j in
-    let es : c .before .before .before .before .size-at .result ≡ size (s .args .d) j = c .before .before .before .before .size-at .ensures ∙ h .sized .at j (omega (arith, h .low, l .inv .1)) in
-    let em = c .before .before .before .before .before .degree-at .ensures in
-    let el : c .before .before .before .before .before .degree-at .result * c .before .before .before .before .size-at .result ≡ getD (s .args .d) j 0 * size (s .args .d) j = ap₂ _*_ em es in
+    let ms = modulus-size (s .args .d) j in
+    let sp = size-pos (s .args .d) j in
+    let es : size-at .result ≡ size (s .args .d) j = size-at .ensures ∙ h .sized .at j (omega (arith, h .low, l .inv .1)) in
+    let em = degree-at .ensures in
+    let el : degree-at .result * size-at .result ≡ getD (s .args .d) j 0 * size (s .args .d) j = ap₂ _*_ em es in
     omega (arith, s .good)
 
 one-at-requires : tie.Need-one-at-requires Inv-loop μ-loop Inv-levels μ-levels
-one-at-requires c κs = let s = c .before .before .before .before .before .before .before .before .before in let h = s .pre in let l = c .before .before .before .before .before .before .before .before .levels in let j = l .i - 1 in
+one-at-requires c κs =
+    let s = c .before .before .before .before .before .before .before .before .before in
+    let levels = c .before .before .before .before .before .before .before .before .levels in
+    let degree-at = c .before .before .before .before .before .before .degree-at in
+    let size-at = c .before .before .before .before .before .size-at in
+    let slot2 = c .slot2 in
+    let h = s .pre in
+    let l = levels in
+    let j = l .i - 1 in
     let ej : suc j ≡ l .i = omega arith in
     let fit = inside (s .args .p) (s .args .d) (s .args .n) (s .args .t .now) (l .a) (l .i) j ej (l .inv .2) in
-    let ms = modulus-size (s .args .d) j in let sp = size-pos (s .args .d) j in
-    let es : c .before .before .before .before .before .size-at .result ≡ size (s .args .d) j = c .before .before .before .before .before .size-at .ensures ∙ h .sized .at j (omega (arith, h .low, l .inv .1)) in
-    let em = c .before .before .before .before .before .before .degree-at .ensures in
-    let el : c .before .before .before .before .before .before .degree-at .result * c .before .before .before .before .before .size-at .result ≡ getD (s .args .d) j 0 * size (s .args .d) j = ap₂ _*_ em es in
-    omega (arith, tower-over (s .args .d) j, c .slot2 .ensures)
+    let ms = modulus-size (s .args .d) j in
+    let sp = size-pos (s .args .d) j in
+    let es : size-at .result ≡ size (s .args .d) j = size-at .ensures ∙ h .sized .at j (omega (arith, h .low, l .inv .1)) in
+    let em = degree-at .ensures in
+    let el : degree-at .result * size-at .result ≡ getD (s .args .d) j 0 * size (s .args .d) j = ap₂ _*_ em es in
+    omega (arith, tower-over (s .args .d) j, slot2 .ensures)
 
 add-slot : tie.Need-add-slot Inv-loop μ-loop Inv-levels μ-levels
-add-slot c = let s = c .before .before .before .before .before .before .before .before .before .before .before in let h = s .pre in let l = c .before .before .before .before .before .before .before .before .before .before .levels in let j = l .i - 1 in
+add-slot c =
+    let s = c .before .before .before .before .before .before .before .before .before .before .before in
+    let levels = c .before .before .before .before .before .before .before .before .before .before .levels in
+    let degree-at = c .before .before .before .before .before .before .before .before .degree-at in
+    let h = s .pre in
+    let l = levels in
+    let j = l .i - 1 in
     let ej : suc j ≡ l .i = omega arith in
     let fit = inside (s .args .p) (s .args .d) (s .args .n) (s .args .t .now) (l .a) (l .i) j ej (l .inv .2) in
-    let ms = modulus-size (s .args .d) j in let sp = size-pos (s .args .d) j in
-    let em = c .before .before .before .before .before .before .before .before .degree-at .ensures in
+    let ms = modulus-size (s .args .d) j in
+    let sp = size-pos (s .args .d) j in
+    let em = degree-at .ensures in
     omega (arith, under (getD (s .args .d) j 0) (size (s .args .d) j) sp, s .good)
 
 slot-requires-3 : tie.Need-slot-requires-3 Inv-loop μ-loop Inv-levels μ-levels
-slot-requires-3 c κs = let s = c .before .before .before .before .before .before .before .before .before .before .before in let h = s .pre in let l = c .before .before .before .before .before .before .before .before .before .before .levels in let j = l .i - 1 in
+slot-requires-3 c κs =
+    let s = c .before .before .before .before .before .before .before .before .before .before .before in
+    let levels = c .before .before .before .before .before .before .before .before .before .before .levels in
+    let degree-at = c .before .before .before .before .before .before .before .before .degree-at in
+    let size-at = c .before .before .before .before .before .before .before .size-at in
+    let h = s .pre in
+    let l = levels in
+    let j = l .i - 1 in
     let ej : suc j ≡ l .i = omega arith in
     let fit = inside (s .args .p) (s .args .d) (s .args .n) (s .args .t .now) (l .a) (l .i) j ej (l .inv .2) in
-    let ms = modulus-size (s .args .d) j in let sp = size-pos (s .args .d) j in
-    let es : c .before .before .before .before .before .before .before .size-at .result ≡ size (s .args .d) j = c .before .before .before .before .before .before .before .size-at .ensures ∙ h .sized .at j (omega (arith, h .low, l .inv .1)) in
-    let em = c .before .before .before .before .before .before .before .before .degree-at .ensures in
-    let el : (c .before .before .before .before .before .before .before .before .degree-at .result + 1) * c .before .before .before .before .before .before .before .size-at .result ≡ suc (getD (s .args .d) j 0) * size (s .args .d) j = ap₂ _*_ (omega arith) es in
+    let ms = modulus-size (s .args .d) j in
+    let sp = size-pos (s .args .d) j in
+    let es : size-at .result ≡ size (s .args .d) j = size-at .ensures ∙ h .sized .at j (omega (arith, h .low, l .inv .1)) in
+    let em = degree-at .ensures in
+    let el : (degree-at .result + 1) * size-at .result ≡ suc (getD (s .args .d) j 0) * size (s .args .d) j = ap₂ _*_ (omega arith) es in
     omega (arith, suc-mul (getD (s .args .d) j 0) (size (s .args .d) j), s .good)
 
 sub-i : tie.Need-sub-i Inv-loop μ-loop Inv-levels μ-levels
@@ -157,48 +261,179 @@ levels-less : tie.Need-levels-less Inv-loop μ-loop Inv-levels μ-levels
 levels-less c = omega arith
 
 levels-again : tie.Need-levels-again Inv-loop μ-loop Inv-levels μ-levels
-levels-again c = let s = c .before .before .before .before .before .before .before .before .before .before .before .before in let h = s .pre in let l = c .before .before .before .before .before .before .before .before .before .before .before .levels in let j = l .i - 1 in
+levels-again c =
+    let s = c .before .before .before .before .before .before .before .before .before .before .before .before in
+    let levels = c .before .before .before .before .before .before .before .before .before .before .before .levels in
+    let degree-at = c .before .before .before .before .before .before .before .before .before .degree-at in
+    let size-at = c .before .before .before .before .before .before .before .before .size-at in
+    let degree-is = c .before .before .before .before .before .before .before .degree-is in
+    let if1 = c .before .before .before .before .before .before .if1 in
+    let loop = c .before .before .before .before .before .loop in
+    let slot2 = c .before .before .before .slot2 in
+    let one-at = c .before .before .one-at in
+    let if3 = c .before .if3 in
+    let slot3 = c .slot3 in
+    let h = s .pre in
+    let l = levels in
+    let j = l .i - 1 in
     let ej : suc j ≡ l .i = omega arith in
     let fit = inside (s .args .p) (s .args .d) (s .args .n) (s .args .t .now) (l .a) (l .i) j ej (l .inv .2) in
-    let ms = modulus-size (s .args .d) j in let sp = size-pos (s .args .d) j in
-    let es : c .before .before .before .before .before .before .before .before .size-at .result ≡ size (s .args .d) j = c .before .before .before .before .before .before .before .before .size-at .ensures ∙ h .sized .at j (omega (arith, h .low, l .inv .1)) in
-    let em = c .before .before .before .before .before .before .before .before .before .degree-at .ensures in
-    let el : c .before .before .before .before .before .before .before .before .before .degree-at .result * c .before .before .before .before .before .before .before .before .size-at .result ≡ getD (s .args .d) j 0 * size (s .args .d) j = ap₂ _*_ em es in
-    let eh : (c .before .before .before .before .before .before .before .before .before .degree-at .result + 1) * c .before .before .before .before .before .before .before .before .size-at .result ≡ (getD (s .args .d) j 0 + 1) * size (s .args .d) j = ap₂ _*_ (ap (λ (x : ℕ). x + 1) em) es in
-    (c .before .before .before .before .before .loop .inv .0, omega (arith, l .inv .1), next (s .args .p) (s .args .d) (s .args .n) (s .args .t .now) (l .a) (l .i) j ej (l .inv .2) (c .before .before .before .before .before .loop .k) (omega arith) (omega arith) (c .before .before .before .before .before .loop .inv .2) (c .before .before .before .slot2 .result) (c .before .before .before .slot2 .ensures ∙ ap (λ (x : ℕ). l .a + 1 + x) el) (c .before .before .one-at .result) (c .before .before .one-at .ensures) (c .before .before .before .before .before .before .before .before .before .degree-at .result) (c .before .before .before .before .before .before .before .degree-is .result) em (c .before .before .before .before .before .before .before .degree-is .ensures) (not-false _ (c .before .before .before .before .before .before .if1 .left)) (not-false _ (c .before .if3 .left)) (c .slot3 .result) (c .slot3 .ensures ∙ ap (λ (x : ℕ). l .a + 1 + x) eh))
+    let ms = modulus-size (s .args .d) j in
+    let sp = size-pos (s .args .d) j in
+    let es : size-at .result ≡ size (s .args .d) j = size-at .ensures ∙ h .sized .at j (omega (arith, h .low, l .inv .1)) in
+    let em = degree-at .ensures in
+    let el : degree-at .result * size-at .result ≡ getD (s .args .d) j 0 * size (s .args .d) j = ap₂ _*_ em es in
+    let eh : (degree-at .result + 1) * size-at .result ≡ (getD (s .args .d) j 0 + 1) * size (s .args .d) j = ap₂ _*_ (ap (λ (x : ℕ). x + 1) em) es in (
+      loop .inv .0,
+      omega (arith, l .inv .1),
+      next
+          (s .args .p)
+          (s .args .d)
+          (s .args .n)
+          (s .args .t .now)
+          (l .a)
+          (l .i)
+          j
+          ej
+          (l .inv .2)
+          (loop .k)
+          (omega arith)
+          (omega arith)
+          (loop .inv .2)
+          (slot2 .result)
+          (slot2 .ensures ∙ ap (λ (x : ℕ). l .a + 1 + x) el)
+          (one-at .result)
+          (one-at .ensures)
+          (degree-at .result)
+          (degree-is .result)
+          em
+          (degree-is .ensures)
+          (not-false _ (if1 .left))
+          (not-false _ (if3 .left))
+          (slot3 .result)
+          (slot3 .ensures ∙ ap (λ (x : ℕ). l .a + 1 + x) eh),
+    )
 
 returns : tie.Need-returns Inv-loop μ-loop Inv-levels μ-levels
-returns c = let s = c .before .before in let h = s .pre in let l = c .before .levels in let j = l .i - 1 in
+returns c =
+    let s = c .before .before in
+    let levels = c .before .levels in
+    let h = s .pre in
+    let l = levels in
+    let j = l .i - 1 in
     l .inv .0 ∙ left-none (s .args .p) (s .args .d) (s .args .n) (s .args .t .now) (l .a) (l .i) (omega arith) (l .inv .2)
 
 returns-2 : tie.Need-returns-2 Inv-loop μ-loop Inv-levels μ-levels
-returns-2 c = let s = c .before .before .before .before .before .before in let h = s .pre in let l = c .before .before .before .before .before .levels in let j = l .i - 1 in
+returns-2 c =
+    let s = c .before .before .before .before .before .before in
+    let levels = c .before .before .before .before .before .levels in
+    let degree-at = c .before .before .before .degree-at in
+    let degree-is = c .before .degree-is in
+    let if1 = c .if1 in
+    let h = s .pre in
+    let l = levels in
+    let j = l .i - 1 in
     let ej : suc j ≡ l .i = omega arith in
     let fit = inside (s .args .p) (s .args .d) (s .args .n) (s .args .t .now) (l .a) (l .i) j ej (l .inv .2) in
-    let ms = modulus-size (s .args .d) j in let sp = size-pos (s .args .d) j in
-    let em = c .before .before .before .degree-at .ensures in
-    bad-degree (s .args .p) (s .args .d) (s .args .n) (s .args .t .now) (l .a) (l .i) j ej (l .inv .2) (c .before .degree-is .result) (c .before .before .before .degree-at .result) em (c .before .degree-is .ensures) (not-true _ (c .if1 .taken))
+    let ms = modulus-size (s .args .d) j in
+    let sp = size-pos (s .args .d) j in
+    let em = degree-at .ensures in
+    bad-degree
+    (s .args .p)
+    (s .args .d)
+    (s .args .n)
+    (s .args .t .now)
+    (l .a)
+    (l .i)
+    j
+    ej
+    (l .inv .2)
+    (degree-is .result)
+    (degree-at .result)
+    em
+    (degree-is .ensures)
+    (not-true _ (if1 .taken))
 
 returns-3 : tie.Need-returns-3 Inv-loop μ-loop Inv-levels μ-levels
-returns-3 c = let s = c .before .before .before .before .before .before .before .before .before .before .before in let h = s .pre in let l = c .before .before .before .before .before .before .before .before .before .before .levels in let j = l .i - 1 in
+returns-3 c =
+    let s = c .before .before .before .before .before .before .before .before .before .before .before in
+    let levels = c .before .before .before .before .before .before .before .before .before .before .levels in
+    let degree-at = c .before .before .before .before .before .before .before .before .degree-at in
+    let size-at = c .before .before .before .before .before .before .before .size-at in
+    let loop = c .before .before .before .before .loop in
+    let slot = c .before .before .slot in
+    let element = c .before .element in
+    let if2 = c .if2 in
+    let h = s .pre in
+    let l = levels in
+    let j = l .i - 1 in
     let ej : suc j ≡ l .i = omega arith in
     let fit = inside (s .args .p) (s .args .d) (s .args .n) (s .args .t .now) (l .a) (l .i) j ej (l .inv .2) in
-    let ms = modulus-size (s .args .d) j in let sp = size-pos (s .args .d) j in
-    let es : c .before .before .before .before .before .before .before .size-at .result ≡ size (s .args .d) j = c .before .before .before .before .before .before .before .size-at .ensures ∙ h .sized .at j (omega (arith, h .low, l .inv .1)) in
-    let em = c .before .before .before .before .before .before .before .before .degree-at .ensures in
-    let k = c .before .before .before .before .loop .k in let q = row-fits k (suc (getD (s .args .d) j 0)) (size (s .args .d) j) (omega arith) in let sm = suc-mul (getD (s .args .d) j 0) (size (s .args .d) j) in
-    let ek : k * c .before .before .before .before .before .before .before .size-at .result ≡ k * size (s .args .d) j = ap (λ (x : ℕ). k * x) es in
-    bad-element (s .args .p) (s .args .d) (s .args .n) (s .args .t .now) (l .a) (l .i) j ej (l .inv .2) (c .before .element .result) k (c .before .before .slot .result) (omega arith) (c .before .before .slot .ensures ∙ ap (λ (x : ℕ). l .a + 1 + x) ek) (c .before .element .ensures) (not-true _ (c .if2 .taken))
+    let ms = modulus-size (s .args .d) j in
+    let sp = size-pos (s .args .d) j in
+    let es : size-at .result ≡ size (s .args .d) j = size-at .ensures ∙ h .sized .at j (omega (arith, h .low, l .inv .1)) in
+    let em = degree-at .ensures in
+    let k = loop .k in
+    let q = row-fits k (suc (getD (s .args .d) j 0)) (size (s .args .d) j) (omega arith) in
+    let sm = suc-mul (getD (s .args .d) j 0) (size (s .args .d) j) in
+    let ek : k * size-at .result ≡ k * size (s .args .d) j = ap (λ (x : ℕ). k * x) es in
+    bad-element
+    (s .args .p)
+    (s .args .d)
+    (s .args .n)
+    (s .args .t .now)
+    (l .a)
+    (l .i)
+    j
+    ej
+    (l .inv .2)
+    (element .result)
+    k
+    (slot .result)
+    (omega arith)
+    (slot .ensures ∙ ap (λ (x : ℕ). l .a + 1 + x) ek)
+    (element .ensures)
+    (not-true _ (if2 .taken))
 
 returns-4 : tie.Need-returns-4 Inv-loop μ-loop Inv-levels μ-levels
-returns-4 c = let s = c .before .before .before .before .before .before .before .before .before .before .before in let h = s .pre in let l = c .before .before .before .before .before .before .before .before .before .before .levels in let j = l .i - 1 in
+returns-4 c =
+    let s = c .before .before .before .before .before .before .before .before .before .before .before in
+    let levels = c .before .before .before .before .before .before .before .before .before .before .levels in
+    let degree-at = c .before .before .before .before .before .before .before .before .degree-at in
+    let size-at = c .before .before .before .before .before .before .before .size-at in
+    let loop = c .before .before .before .before .loop in
+    let slot2 = c .before .before .slot2 in
+    let one-at = c .before .one-at in
+    let if3 = c .if3 in
+    let h = s .pre in
+    let l = levels in
+    let j = l .i - 1 in
     let ej : suc j ≡ l .i = omega arith in
     let fit = inside (s .args .p) (s .args .d) (s .args .n) (s .args .t .now) (l .a) (l .i) j ej (l .inv .2) in
-    let ms = modulus-size (s .args .d) j in let sp = size-pos (s .args .d) j in
-    let es : c .before .before .before .before .before .before .before .size-at .result ≡ size (s .args .d) j = c .before .before .before .before .before .before .before .size-at .ensures ∙ h .sized .at j (omega (arith, h .low, l .inv .1)) in
-    let em = c .before .before .before .before .before .before .before .before .degree-at .ensures in
-    let el : c .before .before .before .before .before .before .before .before .degree-at .result * c .before .before .before .before .before .before .before .size-at .result ≡ getD (s .args .d) j 0 * size (s .args .d) j = ap₂ _*_ em es in
-    bad-one (s .args .p) (s .args .d) (s .args .n) (s .args .t .now) (l .a) (l .i) j ej (l .inv .2) (c .before .before .before .before .loop .k) (omega arith) (omega arith) (c .before .before .before .before .loop .inv .2) (c .before .before .slot2 .result) (c .before .before .slot2 .ensures ∙ ap (λ (x : ℕ). l .a + 1 + x) el) (c .before .one-at .result) (c .before .one-at .ensures) (not-true _ (c .if3 .taken))
+    let ms = modulus-size (s .args .d) j in
+    let sp = size-pos (s .args .d) j in
+    let es : size-at .result ≡ size (s .args .d) j = size-at .ensures ∙ h .sized .at j (omega (arith, h .low, l .inv .1)) in
+    let em = degree-at .ensures in
+    let el : degree-at .result * size-at .result ≡ getD (s .args .d) j 0 * size (s .args .d) j = ap₂ _*_ em es in
+    bad-one
+    (s .args .p)
+    (s .args .d)
+    (s .args .n)
+    (s .args .t .now)
+    (l .a)
+    (l .i)
+    j
+    ej
+    (l .inv .2)
+    (loop .k)
+    (omega arith)
+    (omega arith)
+    (loop .inv .2)
+    (slot2 .result)
+    (slot2 .ensures ∙ ap (λ (x : ℕ). l .a + 1 + x) el)
+    (one-at .result)
+    (one-at .ensures)
+    (not-true _ (if3 .taken))
 
 pub tower-spec : {M : Type 1} → statement M
 tower-spec =

@@ -19,13 +19,22 @@ same-word-requires : tie.Need-same-word-requires
 same-word-requires c κs = search needs
 
 returns : tie.Need-returns
-returns c = c .same-word .ensures ∙ ap₂ eqZ (toZ-ofZ w64 (c .before .before .word-at .result) (record { sfits = c .before .before .word-at .ok }) ∙ c .before .before .word-at .ensures) (ap headOf (sym (c .before .if1 .taken)))
+returns c =
+    let word-at = c .before .before .word-at in
+    let if1 = c .before .if1 in
+    let same-word = c .same-word in
+    same-word .ensures ∙ ap₂ eqZ (toZ-ofZ w64 (word-at .result) (record { sfits = word-at .ok }) ∙ word-at .ensures) (ap headOf (sym (if1 .taken)))
 
 same-word-requires-2 : tie.Need-same-word-requires-2
 same-word-requires-2 c κs = search needs
 
 returns-2 : tie.Need-returns-2
-returns-2 c = c .same-word2 .ensures ∙ ap₂ eqZ (toZ-ofZ w64 (c .before .before .word-at .result) (record { sfits = c .before .before .word-at .ok }) ∙ c .before .before .word-at .ensures) (head-up (c .before .before .before .args .i) (c .before .if1 .left))
+returns-2 c =
+    let s = c .before .before .before in
+    let word-at = c .before .before .word-at in
+    let if1 = c .before .if1 in
+    let same-word2 = c .same-word2 in
+    same-word2 .ensures ∙ ap₂ eqZ (toZ-ofZ w64 (word-at .result) (record { sfits = word-at .ok }) ∙ word-at .ensures) (head-up (s .args .i) (if1 .left))
 
 pub zero-head-spec : {M : Type 1} → statement M
 zero-head-spec =

@@ -17,13 +17,27 @@ same-word-requires : tie.Need-same-word-requires
 same-word-requires c κs = search needs
 
 returns : tie.Need-returns
-returns c = c .same-word .ensures ∙ ap (λ x. eqZ x (pos 0)) (toZ-ofZ w64 (c .before .before .args .g) (c .before .before .fits .g)) ∙ sym (ap (λ x. degreeIn x (c .before .before .args .g)) (not-true (c .before .before .args .below) (c .before .if1 .taken)))
+returns c =
+    let s = c .before .before in
+    let if1 = c .before .if1 in
+    let same-word = c .same-word in
+    same-word .ensures
+    ∙ ap (λ x. eqZ x (pos 0)) (toZ-ofZ w64 (s .args .g) (s .fits .g))
+    ∙ sym (ap (λ x. degreeIn x (s .args .g)) (not-true (s .args .below) (if1 .taken)))
 
 returns-2 : tie.Need-returns-2
-returns-2 c = range-low (c .before .before .args .g) (c .before .before .fits .g) 2 64 (c .if2 .taken) ∙ sym (ap (λ x. degreeIn x (c .before .before .args .g)) (not-false (c .before .before .args .below) (c .before .if1 .left)))
+returns-2 c =
+    let s = c .before .before in
+    let if1 = c .before .if1 in
+    let if2 = c .if2 in
+    range-low (s .args .g) (s .fits .g) 2 64 (if2 .taken) ∙ sym (ap (λ x. degreeIn x (s .args .g)) (not-false (s .args .below) (if1 .left)))
 
 returns-3 : tie.Need-returns-3
-returns-3 c = range-high (c .before .before .args .g) (c .before .before .fits .g) 2 64 (c .if2 .left) ∙ sym (ap (λ x. degreeIn x (c .before .before .args .g)) (not-false (c .before .before .args .below) (c .before .if1 .left)))
+returns-3 c =
+    let s = c .before .before in
+    let if1 = c .before .if1 in
+    let if2 = c .if2 in
+    range-high (s .args .g) (s .fits .g) 2 64 (if2 .left) ∙ sym (ap (λ x. degreeIn x (s .args .g)) (not-false (s .args .below) (if1 .left)))
 
 pub degree-in-spec : {M : Type 1} → statement M
 degree-in-spec = tie.close (tie.spec same-word-requires returns returns-2 returns-3)

@@ -37,7 +37,19 @@ degree-in-requires : tie.Need-degree-in-requires Inv-loop μ-loop
 degree-in-requires c κs = search needs
 
 returns : tie.Need-returns Inv-loop μ-loop
-returns c = allTo-bad 4 (λ j. degreeIn (ltb j (c .before .before .before .before .before .args .n)) (getD (c .before .before .before .before .before .args .t2) j (pos 0))) (c .before .before .before .before .loop .k) (omega arith) ((ap (degreeIn (ltb (c .before .before .before .before .loop .k) (c .before .before .before .before .before .args .n))) (sym (toZ-ofZ w64 (getD (c .before .before .before .before .before .args .t2) (c .before .before .before .before .loop .k) (pos 0)) (record { sfits = c .before .before .g .given }))) ∙ sym (c .before .degree-in .ensures)) ∙ not-true _ (c .if1 .taken))
+returns c =
+    let s = c .before .before .before .before .before in
+    let loop = c .before .before .before .before .loop in
+    let g = c .before .before .g in
+    let degree-in = c .before .degree-in in
+    let if1 = c .if1 in
+    allTo-bad
+    4
+    (λ j. degreeIn (ltb j (s .args .n)) (getD (s .args .t2) j (pos 0)))
+    (loop .k)
+    (omega arith)
+    ((ap (degreeIn (ltb (loop .k) (s .args .n))) (sym (toZ-ofZ w64 (getD (s .args .t2) (loop .k) (pos 0)) (record { sfits = g .given }))) ∙ sym (degree-in .ensures))
+    ∙ not-true _ (if1 .taken))
 
 add-k : tie.Need-add-k Inv-loop μ-loop
 add-k c = search needs
@@ -46,7 +58,20 @@ loop-less : tie.Need-loop-less Inv-loop μ-loop
 loop-less c = omega arith
 
 loop-again : tie.Need-loop-again Inv-loop μ-loop
-loop-again c = (omega arith, allTo-more (c .before .before .before .before .loop .k) (λ j. degreeIn (ltb j (c .before .before .before .before .before .args .n)) (getD (c .before .before .before .before .before .args .t2) j (pos 0))) (c .before .before .before .before .loop .inv .1) ((ap (degreeIn (ltb (c .before .before .before .before .loop .k) (c .before .before .before .before .before .args .n))) (sym (toZ-ofZ w64 (getD (c .before .before .before .before .before .args .t2) (c .before .before .before .before .loop .k) (pos 0)) (record { sfits = c .before .before .g .given }))) ∙ sym (c .before .degree-in .ensures)) ∙ not-false _ (c .if1 .left)))
+loop-again c =
+    let s = c .before .before .before .before .before in
+    let loop = c .before .before .before .before .loop in
+    let g = c .before .before .g in
+    let degree-in = c .before .degree-in in
+    let if1 = c .if1 in (
+      omega arith,
+      allTo-more
+          (loop .k)
+          (λ j. degreeIn (ltb j (s .args .n)) (getD (s .args .t2) j (pos 0)))
+          (loop .inv .1)
+          ((ap (degreeIn (ltb (loop .k) (s .args .n))) (sym (toZ-ofZ w64 (getD (s .args .t2) (loop .k) (pos 0)) (record { sfits = g .given }))) ∙ sym (degree-in .ensures))
+          ∙ not-false _ (if1 .left)),
+    )
 
 returns-2 : tie.Need-returns-2 Inv-loop μ-loop
 returns-2 c = let e : c .before .loop .k ≡ 4 = omega arith in sym (rw e at (c .before .loop .inv .1))

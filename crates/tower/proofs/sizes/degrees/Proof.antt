@@ -38,10 +38,26 @@ nat-requires-4 : tie.Need-nat-requires-4
 nat-requires-4 c κs = search needs
 
 returns : tie.Need-returns
-returns c = ap₂ _∷_ (c .before .before .before .before .before .before .nat .ensures ∙ ap num (toZ-ofZ w64 (getD (c .before .before .before .before .before .before .before .before .args .t1) 0 (pos 0)) (record { sfits = c .before .before .before .before .before .before .before .nat-arg .given })))
-    (ap₂ _∷_ (c .before .before .before .before .nat2 .ensures ∙ ap num (toZ-ofZ w64 (getD (c .before .before .before .before .before .before .before .before .args .t1) 1 (pos 0)) (record { sfits = c .before .before .before .before .before .nat-arg2 .given })))
-    (ap₂ _∷_ (c .before .before .nat3 .ensures ∙ ap num (toZ-ofZ w64 (getD (c .before .before .before .before .before .before .before .before .args .t1) 2 (pos 0)) (record { sfits = c .before .before .before .nat-arg3 .given })))
-    (ap (λ (x : ℕ). x ∷ []) (c .nat4 .ensures ∙ ap num (toZ-ofZ w64 (getD (c .before .before .before .before .before .before .before .before .args .t1) 3 (pos 0)) (record { sfits = c .before .nat-arg4 .given }))))))
+returns c =
+    let s = c .before .before .before .before .before .before .before .before in
+    let nat-arg = c .before .before .before .before .before .before .before .nat-arg in
+    let nat = c .before .before .before .before .before .before .nat in
+    let nat-arg2 = c .before .before .before .before .before .nat-arg2 in
+    let nat2 = c .before .before .before .before .nat2 in
+    let nat-arg3 = c .before .before .before .nat-arg3 in
+    let nat3 = c .before .before .nat3 in
+    let nat-arg4 = c .before .nat-arg4 in
+    let nat4 = c .nat4 in
+    ap₂
+    _∷_
+    (nat .ensures ∙ ap num (toZ-ofZ w64 (getD (s .args .t1) 0 (pos 0)) (record { sfits = nat-arg .given })))
+    (ap₂
+    _∷_
+    (nat2 .ensures ∙ ap num (toZ-ofZ w64 (getD (s .args .t1) 1 (pos 0)) (record { sfits = nat-arg2 .given })))
+    (ap₂
+    _∷_
+    (nat3 .ensures ∙ ap num (toZ-ofZ w64 (getD (s .args .t1) 2 (pos 0)) (record { sfits = nat-arg3 .given })))
+    (ap (λ (x : ℕ). x ∷ []) (nat4 .ensures ∙ ap num (toZ-ofZ w64 (getD (s .args .t1) 3 (pos 0)) (record { sfits = nat-arg4 .given }))))))
 
 pub degrees-spec : {M : Type 1} → statement M
 degrees-spec =

@@ -29,10 +29,18 @@ array-read-next-4 : tie.Need-array-read-next-4
 array-read-next-4 c = search needs
 
 next-requires-4 : tie.Need-next-requires-4
-next-requires-4 c κs = omega (arith, c .before .before .before .pre .each 3 (omega arith))
+next-requires-4 c κs =
+    let s = c .before .before .before in
+    omega (arith, s .pre .each 3 (omega arith))
 
 returns : tie.Need-returns
-returns c = sized-of (c .before .before .before .before .args .t1) _ _ _ _ (c .before .before .before .next .ensures .0) (c .before .before .next2 .ensures .0) (c .before .next3 .ensures .0) (c .next4 .ensures .0)
+returns c =
+    let s = c .before .before .before .before in
+    let next = c .before .before .before .next in
+    let next2 = c .before .before .next2 in
+    let next3 = c .before .next3 in
+    let next4 = c .next4 in
+    sized-of (s .args .t1) _ _ _ _ (next .ensures .0) (next2 .ensures .0) (next3 .ensures .0) (next4 .ensures .0)
 
 pub sizes-spec : {M : Type 1} → statement M
 sizes-spec =

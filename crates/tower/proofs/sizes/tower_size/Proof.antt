@@ -24,33 +24,107 @@ degree-at-requires c κs = let s = c .before .before in let h = s .pre in
     omega (arith, h .low)
 
 next-requires : tie.Need-next-requires Inv-loop μ-loop
-next-requires c κs = let s = c .before .before .before in let h = s .pre in
-    let i = c .before .before .loop .i in (omega (arith, h .small .each i (omega (arith, h .low)), c .degree-at .ensures), omega (arith, c .before .before .loop .inv .1, size-bound (s .args .d) (h .small) i (omega (arith, h .low))))
+next-requires c κs =
+    let s = c .before .before .before in
+    let loop = c .before .before .loop in
+    let degree-at = c .degree-at in
+    let h = s .pre in
+    let i = loop .i in (
+      omega (arith, h .small .each i (omega (arith, h .low)), degree-at .ensures),
+      omega (arith, loop .inv .1, size-bound (s .args .d) (h .small) i (omega (arith, h .low))),
+    )
 
 add-r : tie.Need-add-r Inv-loop μ-loop
-add-r c = let s = c .before .before .before .before in let h = s .pre in
-    let i = c .before .before .before .loop .i in let e1 = c .before .before .before .loop .inv .1 in let e2 = size-next (s .args .d) i (c .before .before .before .loop .s) (c .before .degree-at .result) (c .next .result) e1 (c .before .degree-at .ensures) (c .next .ensures .0) in
-    omega (arith, e1, e2, size-bound (s .args .d) (h .small) i (omega (arith, h .low)), size-bound (s .args .d) (h .small) (i + 1) (omega (arith, h .low)), tower-bound (s .args .d) (h .small) i (omega (arith, h .low)))
+add-r c =
+    let s = c .before .before .before .before in
+    let loop = c .before .before .before .loop in
+    let degree-at = c .before .degree-at in
+    let next = c .next in
+    let h = s .pre in
+    let i = loop .i in
+    let e1 = loop .inv .1 in
+    let e2 = size-next (s .args .d) i (loop .s) (degree-at .result) (next .result) e1 (degree-at .ensures) (next .ensures .0) in
+    omega (
+      arith,
+      e1,
+      e2,
+      size-bound
+          (s .args .d)
+          (h .small)
+          i
+          (omega (arith, h .low)),
+      size-bound
+          (s .args .d)
+          (h .small)
+          (i + 1)
+          (omega (arith, h .low)),
+      tower-bound
+          (s .args .d)
+          (h .small)
+          i
+          (omega (arith, h .low)),
+    )
 
 add-r-2 : tie.Need-add-r-2 Inv-loop μ-loop
-add-r-2 c = let s = c .before .before .before .before in let h = s .pre in
-    let i = c .before .before .before .loop .i in let e1 = c .before .before .before .loop .inv .1 in let e2 = size-next (s .args .d) i (c .before .before .before .loop .s) (c .before .degree-at .result) (c .next .result) e1 (c .before .degree-at .ensures) (c .next .ensures .0) in
-    omega (arith, e1, e2, h .low, c .before .before .before .loop .inv .2, size-bound (s .args .d) (h .small) i (omega (arith, h .low)), size-bound (s .args .d) (h .small) (i + 1) (omega (arith, h .low)), tower-bound (s .args .d) (h .small) i (omega (arith, h .low)))
+add-r-2 c =
+    let s = c .before .before .before .before in
+    let loop = c .before .before .before .loop in
+    let degree-at = c .before .degree-at in
+    let next = c .next in
+    let h = s .pre in
+    let i = loop .i in
+    let e1 = loop .inv .1 in
+    let e2 = size-next (s .args .d) i (loop .s) (degree-at .result) (next .result) e1 (degree-at .ensures) (next .ensures .0) in
+    omega (
+      arith,
+      e1,
+      e2,
+      h .low,
+      loop .inv .2,
+      size-bound
+          (s .args .d)
+          (h .small)
+          i
+          (omega (arith, h .low)),
+      size-bound
+          (s .args .d)
+          (h .small)
+          (i + 1)
+          (omega (arith, h .low)),
+      tower-bound
+          (s .args .d)
+          (h .small)
+          i
+          (omega (arith, h .low)),
+    )
 
 add-i : tie.Need-add-i Inv-loop μ-loop
-add-i c = let s = c .before .before .before .before in let h = s .pre in
+add-i c =
+    let s = c .before .before .before .before in
+    let h = s .pre in
     omega (arith, h .low)
 
 loop-less : tie.Need-loop-less Inv-loop μ-loop
 loop-less c = omega arith
 
 loop-again : tie.Need-loop-again Inv-loop μ-loop
-loop-again c = let s = c .before .before .before .before in let h = s .pre in
-    let i = c .before .before .before .loop .i in let e1 = c .before .before .before .loop .inv .1 in let e2 = size-next (s .args .d) i (c .before .before .before .loop .s) (c .before .degree-at .result) (c .next .result) e1 (c .before .degree-at .ensures) (c .next .ensures .0) in
-    (omega arith, e2, tower-step (s .args .d) i (c .next .result) (c .before .before .before .loop .s) (c .before .before .before .loop .r) e2 e1 (c .before .before .before .loop .inv .2))
+loop-again c =
+    let s = c .before .before .before .before in
+    let loop = c .before .before .before .loop in
+    let degree-at = c .before .degree-at in
+    let next = c .next in
+    let h = s .pre in
+    let i = loop .i in
+    let e1 = loop .inv .1 in
+    let e2 = size-next (s .args .d) i (loop .s) (degree-at .result) (next .result) e1 (degree-at .ensures) (next .ensures .0) in
+    (omega arith, e2, tower-step (s .args .d) i (next .result) (loop .s) (loop .r) e2 e1 (loop .inv .2))
 
 returns : tie.Need-returns Inv-loop μ-loop
-returns c = let e : c .before .loop .i ≡ c .before .before .args .n = omega arith in c .before .loop .inv .2 ∙ ap (towerSize (c .before .before .args .d)) e
+returns c =
+    let s = c .before .before in
+    let loop = c .before .loop in
+    let e : loop .i ≡ s .args .n = omega arith in
+    loop .inv .2 ∙ ap (towerSize (s .args .d)) e
 
 pub tower-size-spec : {M : Type 1} → statement M
 tower-size-spec =

@@ -17,7 +17,10 @@ count-requires : tie.Need-count-requires
 count-requires c κs = search needs
 
 returns : tie.Need-returns
-returns c = c .count .ensures ∙ ap countOf (toZ-ofZ w64 (c .before .word-at .result) (record { sfits = c .before .word-at .ok }) ∙ c .before .word-at .ensures)
+returns c =
+    let word-at = c .before .word-at in
+    let count = c .count in
+    count .ensures ∙ ap countOf (toZ-ofZ w64 (word-at .result) (record { sfits = word-at .ok }) ∙ word-at .ensures)
 
 pub count-at-spec : {M : Type 1} → statement M
 count-at-spec = tie.close (tie.spec word-at-requires count-requires returns)

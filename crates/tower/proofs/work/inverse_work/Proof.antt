@@ -28,45 +28,105 @@ degree-at-requires c κs = let s = c .before .before in let h = s .pre in
     omega (arith, h .low)
 
 add-room : tie.Need-add-room Inv-loop μ-loop
-add-room c = let s = c .before .before .before in let h = s .pre in
-    let i = c .before .before .loop .i in let sb = size-bound (s .args .d) (h .small) i (omega (arith, h .low)) in let sm = h .small .each i (omega (arith, h .low)) in let bg = h .some i (omega arith) in let l = c .before .before .loop .inv in
-    omega (arith, c .degree-at .ensures)
+add-room c =
+    let s = c .before .before .before in
+    let loop = c .before .before .loop in
+    let degree-at = c .degree-at in
+    let h = s .pre in
+    let i = loop .i in
+    let sb = size-bound (s .args .d) (h .small) i (omega (arith, h .low)) in
+    let sm = h .small .each i (omega (arith, h .low)) in
+    let bg = h .some i (omega arith) in
+    let l = loop .inv in
+    omega (arith, degree-at .ensures)
 
 room-requires : tie.Need-room-requires Inv-loop μ-loop
-room-requires c κs = let s = c .before .before .before in let h = s .pre in
-    let i = c .before .before .loop .i in let sb = size-bound (s .args .d) (h .small) i (omega (arith, h .low)) in let sm = h .small .each i (omega (arith, h .low)) in let bg = h .some i (omega arith) in let l = c .before .before .loop .inv in
-    omega (arith, c .degree-at .ensures)
+room-requires c κs =
+    let s = c .before .before .before in
+    let loop = c .before .before .loop in
+    let degree-at = c .degree-at in
+    let h = s .pre in
+    let i = loop .i in
+    let sb = size-bound (s .args .d) (h .small) i (omega (arith, h .low)) in
+    let sm = h .small .each i (omega (arith, h .low)) in
+    let bg = h .some i (omega arith) in
+    let l = loop .inv in
+    omega (arith, degree-at .ensures)
 
 next-requires : tie.Need-next-requires Inv-loop μ-loop
-next-requires c κs = let s = c .before .before .before .before in let h = s .pre in
-    let i = c .before .before .before .loop .i in let sb = size-bound (s .args .d) (h .small) i (omega (arith, h .low)) in let sm = h .small .each i (omega (arith, h .low)) in let bg = h .some i (omega arith) in let l = c .before .before .before .loop .inv in
-    omega (arith, c .before .degree-at .ensures)
+next-requires c κs =
+    let s = c .before .before .before .before in
+    let loop = c .before .before .before .loop in
+    let degree-at = c .before .degree-at in
+    let h = s .pre in
+    let i = loop .i in
+    let sb = size-bound (s .args .d) (h .small) i (omega (arith, h .low)) in
+    let sm = h .small .each i (omega (arith, h .low)) in
+    let bg = h .some i (omega arith) in
+    let l = loop .inv in
+    omega (arith, degree-at .ensures)
 
 mul-r : tie.Need-mul-r Inv-loop μ-loop
-mul-r c = let s = c .before .before .before .before .before in let h = s .pre in
-    let i = c .before .before .before .before .loop .i in let sb = size-bound (s .args .d) (h .small) i (omega (arith, h .low)) in let sm = h .small .each i (omega (arith, h .low)) in let bg = h .some i (omega arith) in let l = c .before .before .before .before .loop .inv in
-    omega (arith, c .before .room .ensures .1)
+mul-r c =
+    let s = c .before .before .before .before .before in
+    let loop = c .before .before .before .before .loop in
+    let room = c .before .room in
+    let h = s .pre in
+    let i = loop .i in
+    let sb = size-bound (s .args .d) (h .small) i (omega (arith, h .low)) in
+    let sm = h .small .each i (omega (arith, h .low)) in
+    let bg = h .some i (omega arith) in
+    let l = loop .inv in
+    omega (arith, room .ensures .1)
 
 add-r : tie.Need-add-r Inv-loop μ-loop
-add-r c = let s = c .before .before .before .before .before in let h = s .pre in
-    let i = c .before .before .before .before .loop .i in let sb = size-bound (s .args .d) (h .small) i (omega (arith, h .low)) in let sm = h .small .each i (omega (arith, h .low)) in let bg = h .some i (omega arith) in let l = c .before .before .before .before .loop .inv in
-    omega (arith, c .before .room .ensures .1, h .low)
+add-r c =
+    let s = c .before .before .before .before .before in
+    let loop = c .before .before .before .before .loop in
+    let room = c .before .room in
+    let h = s .pre in
+    let i = loop .i in
+    let sb = size-bound (s .args .d) (h .small) i (omega (arith, h .low)) in
+    let sm = h .small .each i (omega (arith, h .low)) in
+    let bg = h .some i (omega arith) in
+    let l = loop .inv in
+    omega (arith, room .ensures .1, h .low)
 
 add-i : tie.Need-add-i Inv-loop μ-loop
-add-i c = let s = c .before .before .before .before .before in let h = s .pre in
+add-i c =
+    let s = c .before .before .before .before .before in
+    let h = s .pre in
     omega (arith, h .low)
 
 loop-less : tie.Need-loop-less Inv-loop μ-loop
 loop-less c = omega arith
 
 loop-again : tie.Need-loop-again Inv-loop μ-loop
-loop-again c = let s = c .before .before .before .before .before in let h = s .pre in
-    let i = c .before .before .before .before .loop .i in let sb = size-bound (s .args .d) (h .small) i (omega (arith, h .low)) in let sm = h .small .each i (omega (arith, h .low)) in let bg = h .some i (omega arith) in let l = c .before .before .before .before .loop .inv in
-    let e2 = size-next (s .args .d) i (c .before .before .before .before .loop .s) (c .before .before .degree-at .result) (c .next .result) (l .1) (c .before .before .degree-at .ensures) (c .next .ensures .0) in
-    (omega arith, e2, inverse-step (s .args .d) i (c .before .before .before .before .loop .s) (c .before .before .degree-at .result) (c .before .room .result) (c .before .before .before .before .loop .r) (l .1) (c .before .before .degree-at .ensures) (c .before .room .ensures .0) (l .2), omega (arith, c .before .room .ensures .1))
+loop-again c =
+    let s = c .before .before .before .before .before in
+    let loop = c .before .before .before .before .loop in
+    let degree-at = c .before .before .degree-at in
+    let room = c .before .room in
+    let next = c .next in
+    let h = s .pre in
+    let i = loop .i in
+    let sb = size-bound (s .args .d) (h .small) i (omega (arith, h .low)) in
+    let sm = h .small .each i (omega (arith, h .low)) in
+    let bg = h .some i (omega arith) in
+    let l = loop .inv in
+    let e2 = size-next (s .args .d) i (loop .s) (degree-at .result) (next .result) (l .1) (degree-at .ensures) (next .ensures .0) in (
+      omega arith,
+      e2,
+      inverse-step (s .args .d) i (loop .s) (degree-at .result) (room .result) (loop .r) (l .1) (degree-at .ensures) (room .ensures .0) (l .2),
+      omega (arith, room .ensures .1),
+    )
 
 returns : tie.Need-returns Inv-loop μ-loop
-returns c = let e : c .before .loop .i ≡ c .before .before .args .n = omega arith in (c .before .loop .inv .2 ∙ ap (inverseWork (c .before .before .args .d)) e, omega (arith, c .before .before .pre .low, c .before .loop .inv .3))
+returns c =
+    let s = c .before .before in
+    let loop = c .before .loop in
+    let e : loop .i ≡ s .args .n = omega arith in
+    (loop .inv .2 ∙ ap (inverseWork (s .args .d)) e, omega (arith, s .pre .low, loop .inv .3))
 
 pub inverse-work-spec : {M : Type 1} → statement M
 inverse-work-spec =
