@@ -1,10 +1,12 @@
 """The public calls on raw numbers and words, every refusal included.
 
 Each call takes p, N and the degrees as any ints and lists as any words, and
-gives its answer with the numbers that stand beside it:
-    (('done',), values)   (('refused', number), values)
+gives its answer, the numbers that stand beside it, and every lent list as it
+must be afterwards, in the order of the arguments:
+    (('done',), values, lists)   (('refused', number), values, lists)
 The values are 0 in a refused call. 'Refusal numbers, tested in this order' are
-tested over all arguments before the next number is.
+tested over all arguments before the next number is. 'Numbers 1 to 10 leave
+every lent word as found.'
 """
 
 from second import sequence, words
@@ -56,29 +58,29 @@ def slot_tests(p, levels, four_degrees, slots):
 # The calls.
 
 def check_tower(p, levels, four_degrees, tower):
-    """'check of a tower 1 to 3'."""
+    """'check of a tower 1 to 3'; a check changes no word."""
     tests = tower_tests(p, levels, four_degrees, tower)
-    return answer_of(first_number(tests)), ()
+    return answer_of(first_number(tests)), (), (list(tower),)
 
 
 def check_slot(p, levels, four_degrees, tower, slot):
-    """'check of a slot and leading view 1 to 5'."""
+    """'check of a slot and leading view 1 to 5'; a check changes no word."""
     tests = (tower_tests(p, levels, four_degrees, tower)
              + slot_tests(p, levels, four_degrees, [slot]))
-    return answer_of(first_number(tests)), ()
+    return answer_of(first_number(tests)), (), (list(tower), list(slot))
 
 
 def residue_of_fraction(p, n, e):
     """'fraction 1, 10'; the residue stands beside the answer."""
     answer = sequence.fraction(p, n, e)
     if answer[0] == "done":
-        return ("done",), (answer[1],)
-    return answer, (0,)
+        return ("done",), (answer[1],), ()
+    return answer, (0,), ()
 
 
 def work_sizes(levels, four_degrees, degree_a, degree_b):
     """'work sizes 2, 5'; M(N), I(N) and the GCD's number beside the answer."""
     answer = words.work_sizes(levels, four_degrees, degree_a, degree_b)
     if answer[0] == "done":
-        return ("done",), answer[1]
-    return answer, (0, 0, 0)
+        return ("done",), answer[1], ()
+    return answer, (0, 0, 0), ()

@@ -97,25 +97,28 @@ def slot_lengths():
 
 
 def slot_largest():
-    """C3 of document 01, and 'at most 65,536 words' for other S_N."""
+    """C3 of document 01; 65,536 and 65,537 words; the largest of one level."""
     rng = random.Random(302)
     for p, degrees, degree, count in [
-            (2, (64, 31), 31, 32), (2147483647, (64, 31), 31, 32),
-            (2, (64, 31), -1, 33), (2, (3, 64), 254, 255), (2, (3, 64), -1, 256),
-            (2, (3, 22, 23), 30, 31), (2, (3, 22, 23), -1, 32), (2, (64,), 255, 256)]:
+            (2, (64, 31), -1, 33), (2, (3, 64), 254, 255), (2, (3, 22, 23), -1, 32),
+            (2147483647, (64,), 255, 256)]:
         yield case(p, degrees, random_slot(rng, p, degrees, degree, count))
+    right = random_slot(rng, 2, (64, 31), 31, 32)
+    yield case(2, (64, 31), right)
+    yield case(2, (64, 31), right[:-1] + [2])
 
 
 def slot_largest_damaged():
-    """C3's slot with its first or its last word wrong, and cut or drawn out."""
+    """The largest slot of one level: its ends wrong, and cut and drawn out."""
     rng = random.Random(303)
-    right = random_slot(rng, 2, (64, 31), 31, 32)
-    for place, word in [(0, 32), (0, 30), (-1, 2), (-1, -1)]:
+    right = random_slot(rng, 2, (64,), 255, 256)
+    yield case(2, (64,), right)
+    for place, word in [(0, 256), (0, 254), (-1, 2), (-1, -1)]:
         slot = list(right)
         slot[place] = word
-        yield case(2, (64, 31), slot)
-    yield case(2, (64, 31), right[:-1])
-    yield case(2, (64, 31), right + [0])
+        yield case(2, (64,), slot)
+    yield case(2, (64,), right[:-1])
+    yield case(2, (64,), right + [0])
 
 
 def slot_every_word():

@@ -1,10 +1,12 @@
 """Writes the test lines of the program `vectors` and what it must answer.
 
-Run: python3 second/vectors.py
+Run: python3 second/vectors.py, or with --check to compare only
 A line of stdin is a call's name and its arguments, a lent list as its count and
-its words. A line of stdout is the name, the answer and what stands beside it.
+its words. A line of stdout is the name, the answer, what stands beside it, and
+every lent list as it must be afterwards.
 """
 
+import argparse
 import collections
 import os
 import sys
@@ -31,20 +33,21 @@ def fields(argument):
     return argument if isinstance(argument, tuple) else (argument,)
 
 
-def line(*parts):
-    """Fields parted by tabs."""
-    return "\t".join(str(part) for part in parts) + "\n"
+def line(name, *parts):
+    """The name and the parts' fields, parted by tabs."""
+    texts = [str(field) for part in parts for field in fields(part)]
+    return "\t".join([name] + texts) + "\n"
 
 
 def lines_of(name, call, groups):
     """The lines asked and answered for each case once, and the answers' counts."""
     asked, answered, counts = {}, [], collections.Counter()
     for arguments in (case for group in groups for case in group()):
-        text = line(name, *(f for a in arguments for f in fields(a)))
+        text = line(name, *arguments)
         if text not in asked:
             asked[text] = True
-            answer, values = call(*arguments)
-            answered.append(line(name, *answer, *values))
+            answer, values, lists = call(*arguments)
+            answered.append(line(name, answer, values, *lists))
             counts[answer] += 1
     return list(asked), answered, counts
 
@@ -56,30 +59,49 @@ def report(name, counts):
     print(f"{name}: {sum(counts.values())} cases, {', '.join(parts)}")
 
 
-def write(name, lines):
-    """Writes a file of the program's; its name where that changed it."""
-    path = os.path.join(ROOT, "crates", "vectors", name)
-    text = "".join(lines)
-    if os.path.exists(path):
-        with open(path, encoding="ascii") as old:
-            if old.read() == text:
-                return []
-    with open(path, "w", encoding="ascii") as new:
-        new.write(text)
-    return [os.path.relpath(path, ROOT)]
-
-
-def main():
-    """Both files anew, with the counts and whether anything changed."""
+def files():
+    """The text of each file of the program's, by its path; tells the counts."""
     stdin, stdout = [], []
     for name, call, groups in CALLS:
         asked, answered, counts = lines_of(name, call, groups)
         stdin += asked
         stdout += answered
         report(name, counts)
-    changed = write("stdin", stdin) + write("stdout", stdout)
-    print("\n".join(f"changed: {name}" for name in changed) or "unchanged")
+    folder = os.path.join(ROOT, "crates", "vectors")
+    return {os.path.join(folder, "stdin"): "".join(stdin),
+            os.path.join(folder, "stdout"): "".join(stdout)}
+
+
+def holds(path, text):
+    """Whether the file is there and holds this text."""
+    if not os.path.exists(path):
+        return False
+    with open(path, "rb") as old:
+        return old.read() == text.encode("ascii")
+
+
+def write(path, text):
+    """Puts the text into the file."""
+    with open(path, "wb") as new:
+        new.write(text.encode("ascii"))
+
+
+def main():
+    """Makes both files' text, and writes or compares it."""
+    parser = argparse.ArgumentParser(
+        description="Writes crates/vectors/stdin and crates/vectors/stdout.")
+    parser.add_argument("--check", action="store_true",
+                        help="write nothing; exit 1 where a file differs")
+    check = parser.parse_args().check
+    other = [(path, text) for path, text in files().items() if not holds(path, text)]
+    for path, text in other:
+        if not check:
+            write(path, text)
+        print("differs:" if check else "changed:", os.path.relpath(path, ROOT))
+    if not other:
+        print("unchanged")
+    return 1 if check and other else 0
 
 
 if __name__ == "__main__":
-    main()
+    sys.exit(main())

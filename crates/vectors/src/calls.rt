@@ -1,5 +1,5 @@
 // The calls of the kernel, one function for each: it takes the numbers of a line, makes the call
-// and puts the answer into the output.
+// and puts the answer into the output, and behind it every lent list as it is afterwards.
 //
 // A list is its count and then its words. Lists that a call only reads are lent where they stand,
 // as parts of the numbers. A list that a call may change needs a store of its own, since two parts
@@ -13,6 +13,7 @@ use crate::field::Call;
 use crate::output::Output;
 use crate::output::put;
 use crate::output::put_number;
+use crate::output::put_words;
 use kernel::Answer;
 
 // Where the words of a list stand among the numbers. A list that is not all there has no words and
@@ -161,7 +162,8 @@ fn tower(numbers: &[i64], line: u64, out: &mut Output, held: usize) -> usize {
     }
     let answer = kernel::check_tower(p, n, degrees, words(numbers, tower));
     let answered = put_answer(out, held, b"tower", answer);
-    put(out, answered, b"\n")
+    let told = put_words(out, answered, words(numbers, tower));
+    put(out, told, b"\n")
 }
 
 // p N d1 d2 d3 d4, the tower's words, the slot's words
@@ -179,7 +181,9 @@ fn slot(numbers: &[i64], line: u64, out: &mut Output, held: usize) -> usize {
     }
     let answer = kernel::check_slot(p, n, degrees, words(numbers, tower), words(numbers, slot));
     let answered = put_answer(out, held, b"slot", answer);
-    put(out, answered, b"\n")
+    let tower_told = put_words(out, answered, words(numbers, tower));
+    let slot_told = put_words(out, tower_told, words(numbers, slot));
+    put(out, slot_told, b"\n")
 }
 
 // Makes the call that a line asks for.

@@ -3,8 +3,8 @@
 //
 // A line's fields are parted by single tabs: the call's name, then numbers of the signed 64 bits,
 // where a list is its count and its words. An answer's line is the name, `done`, `factor` and its
-// level or `refused` and its number, and then what else the call gives. A line that asks for no
-// call prints `bad line` and its number from 1.
+// level or `refused` and its number, then what else the call gives, and then every lent list as it
+// is afterwards. A line that asks for no call prints `bad line` and its number from 1.
 mod calls;
 mod field;
 mod output;
@@ -12,13 +12,21 @@ mod output;
 ghost use Rattle.vectors.specs.Sound.{Sound};
 use crate::field::Call;
 use crate::field::Number;
+use crate::output::OUTPUT_BYTES;
 use crate::output::Output;
 
-// The numbers of a line.
-type Store = [i64; 131072];
+// The most numbers of a line. A line that has more asks for no call.
+const MOST_NUMBERS: usize = 131072;
 
-// The bytes of a field. A longer one is no name and no number, and its first 24 bytes are none.
-type Field = [u8; 24];
+// The numbers of a line.
+type Store = [i64; MOST_NUMBERS];
+
+// The most bytes that are kept of a field: more than a name or a number has, so the first bytes of
+// a longer field are neither.
+const MOST_BYTES: usize = 24;
+
+// The bytes of a field.
+type Field = [u8; MOST_BYTES];
 
 // What has been read and not been answered yet: the call that the line's first field names, once
 // it has ended; how many numbers have ended behind it; how many bytes of the next field are kept;
@@ -72,7 +80,7 @@ fn end_number(store: &mut Store, field: &Field, s: Reading) -> Reading
         return naming(s, Call::Unknown);
     };
     let numbers = s.numbers;
-    if 131072 <= numbers {
+    if MOST_NUMBERS <= numbers {
         return naming(s, Call::Unknown);
     }
     store[numbers] = n;
@@ -115,7 +123,7 @@ fn feed(store: &mut Store, field: &mut Field, out: &mut Output, s: Reading, b: u
         return end_line(store, out, t);
     }
     let bytes = s.bytes;
-    if 24 <= bytes {
+    if MOST_BYTES <= bytes {
         return s;
     }
     field[bytes] = b;
@@ -167,9 +175,9 @@ fn end_input(store: &mut Store, field: &mut Field, out: &mut Output, s: Reading)
 }
 
 fn main() {
-    let mut store = [0i64; 131072];
-    let mut field = [0u8; 24];
-    let mut out = [0u8; 65536];
+    let mut store = [0i64; MOST_NUMBERS];
+    let mut field = [0u8; MOST_BYTES];
+    let mut out = [0u8; OUTPUT_BYTES];
     let mut s = fresh(1, 0);
     // More pieces than any input has.
     let mut turns: u64 = 4611686018427387904;
