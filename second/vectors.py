@@ -17,13 +17,16 @@ sys.path.insert(0, ROOT)
 
 from second import calls, cases_numbers, cases_slot, cases_tower
 
-# The name in a line, the call, and the groups of its cases.
+# The name in a line, the call, the groups of its cases, and the numbers it can give.
 CALLS = [
-    ("fraction", calls.residue_of_fraction, cases_numbers.FRACTION),
-    ("sizes", calls.work_sizes, cases_numbers.SIZES),
-    ("tower", calls.check_tower, cases_tower.TOWER),
-    ("slot", calls.check_slot, cases_slot.SLOT),
+    ("fraction", calls.residue_of_fraction, cases_numbers.FRACTION, {1, 10}),
+    ("sizes", calls.work_sizes, cases_numbers.SIZES, {2, 5}),
+    ("tower", calls.check_tower, cases_tower.TOWER, {1, 2, 3}),
+    ("slot", calls.check_slot, cases_slot.SLOT, {1, 2, 3, 4, 5}),
 ]
+
+# Every call has at least so many cases.
+LEAST = 1000
 
 
 def fields(argument):
@@ -52,21 +55,24 @@ def lines_of(name, call, groups):
     return list(asked), answered, counts
 
 
-def report(name, counts):
-    """How many cases, and how many for each answer."""
+def report(name, counts, numbers):
+    """How many cases, and how many for each answer; none may be missing."""
     parts = [f"{' '.join(map(str, answer))}: {counts[answer]}"
              for answer in sorted(counts)]
     print(f"{name}: {sum(counts.values())} cases, {', '.join(parts)}")
+    met = {answer[1] for answer in counts if answer[0] == "refused"}
+    if sum(counts.values()) < LEAST or met != numbers or ("done",) not in counts:
+        sys.exit(f"{name}: too few cases, or an answer that none of them gives")
 
 
 def files():
     """The text of each file of the program's, by its path; tells the counts."""
     stdin, stdout = [], []
-    for name, call, groups in CALLS:
+    for name, call, groups, numbers in CALLS:
         asked, answered, counts = lines_of(name, call, groups)
         stdin += asked
         stdout += answered
-        report(name, counts)
+        report(name, counts, numbers)
     folder = os.path.join(ROOT, "crates", "vectors")
     return {os.path.join(folder, "stdin"): "".join(stdin),
             os.path.join(folder, "stdout"): "".join(stdout)}
