@@ -3,3 +3,4 @@ pub mod Rows
 pub mod Moduli
 pub mod Lengths
 pub mod Working
+pub mod Puts

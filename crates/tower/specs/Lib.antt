@@ -9,4 +9,6 @@ pub mod TowerUnique
 pub mod Work
 pub mod Limits
 pub mod Ready
+pub mod Store
+pub mod Stands
 pub mod Figures

@@ -1,7 +1,8 @@
 -- What the functions on words ask of their arguments.
 --
 -- Sized, Small, Degrees  == z holds the sizes of the degrees d; degrees of at most 64; n levels of degrees from 1 to 64
--- Element, Row, Whole    == an element, n elements behind a degree word, the words of a tower: where they stand
+-- Positive               == each of the i lowest degrees is at least 1
+-- Element, Run, Row, Whole == an element, n elements one after the other, n elements behind a degree word, the words of a tower: where they stand
 use Prim.Native.Nat.{ℕ, _+_, _*_, _<_, _≤_}
 use mathlib.Core.Path.{_≡_}
 use mathlib.Core.List.{List}
@@ -24,11 +25,20 @@ pub record Degrees (n : ℕ) (d : List ℕ) : Type 0 where
   pub small : Small d
   pub some : (k : ℕ) → k < n → 1 ≤ getD d k 0
 
+pub record Positive (i : ℕ) (d : List ℕ) : Type 0 where
+  pub some : (k : ℕ) → k < i → 1 ≤ getD d k 0
+
 -- an element of level i stands at a
 pub record Element (i : ℕ) (d z : List ℕ) (x : List ℤ) (a : ℕ) : Type 0 where
   pub low : i ≤ 4
   pub sized : Sized d z
   pub inside : a + size d i ≤ length x
+
+-- n elements of level i, one after the other, from a on
+pub record Run (i n : ℕ) (d z : List ℕ) (x : List ℤ) (a : ℕ) : Type 0 where
+  pub low : i ≤ 4
+  pub sized : Sized d z
+  pub inside : a + n * size d i ≤ length x
 
 -- n elements of level i behind a degree word, at a
 pub record Row (i n : ℕ) (d z : List ℕ) (x : List ℤ) (a : ℕ) : Type 0 where

@@ -5,10 +5,11 @@ ghost use lib.IntN.{pos};
 ghost use lib.ListN.{length, getD, drop};
 ghost use Rattle.tower.specs.Writing.{size};
 ghost use Rattle.tower.specs.Form.{seg, eqZ, residueOk, degreeOk, inForm, slotForm, towerForm};
-ghost use Rattle.tower.specs.Heads.{headOf, placeOk, oneHead};
+ghost use Rattle.tower.specs.Heads.{placeOk, oneHead};
 ghost use Rattle.tower.specs.Ready.{Element, Row, Whole};
 use super::sizes::degree_at;
 use super::sizes::size_at;
+use super::store::is_zero;
 use super::words::count;
 use super::words::count_at;
 use super::words::same_word;
@@ -36,18 +37,6 @@ pub fn degree_ok(x: &[i64], a: usize, n: usize) -> bool
         return false;
     }
     count(g) <= n
-}
-
-// An element of level i in form is zero precisely when its first word is 0, or -1 above level 0.
-pub fn zero_head(i: usize, x: &[i64], a: usize) -> bool
-    requires { ⌜ a < length (now x) ⌝ }
-    ensures { λ r. ⌜ r ≡ eqZ (getD (now (x .entry)) a (pos 0)) (headOf i) ⌝ }
-{
-    let g = word_at(x, a);
-    if i == 0 {
-        return same_word(g, 0);
-    }
-    same_word(g, -1)
 }
 
 // The k-th coefficient fits a degree word that counts c: the last of them is not zero, those behind it are.
@@ -99,7 +88,7 @@ pub fn row(i: usize, n: usize, d: [usize; 4], z: [usize; 5], p: u64, x: &[i64], 
         if !element(i, d, z, p, x, b) {
             return false;
         }
-        if !place(c, k, zero_head(i, x, b)) {
+        if !place(c, k, is_zero(i, x, b)) {
             return false;
         }
         k += 1;

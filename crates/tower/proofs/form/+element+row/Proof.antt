@@ -24,7 +24,7 @@ use Rattle.tower.proofs.form.place.Reads as place-reads
 use Rattle.tower.proofs.form.residue.Reads as residue-reads
 use Rattle.tower.proofs.sizes.size_at.Reads as size-at-reads
 use Rattle.tower.proofs.form.slot.Reads as slot-reads
-use Rattle.tower.proofs.form.zero_head.Reads as zero-head-reads
+use Rattle.tower.proofs.store.is_zero.Reads as is-zero-reads
 use Rattle.tower.proofs.form.+element+row.{statement}
 use Rattle.tower.proofs.form.+element+row.Tie.{close}
 
@@ -68,8 +68,8 @@ cs-row t = (
   slot-reads.Learnt,
   element-below t,
   element.Post,
-  zero-head-reads.Asked,
-  zero-head-reads.Learnt,
+  is-zero-reads.Asked,
+  is-zero-reads.Learnt,
   place-reads.Asked,
   place-reads.Learnt,
 )
@@ -215,8 +215,8 @@ row-returns-2 t c =
     (element .ensures)
     (not-true _ (if2 .taken))
 
-row-zero-head-requires : (t : ℕ) → row-lts.Need-zero-head-requires (cs-row t) (row-at t) row.Post row-Inv-loop row-μ-loop
-row-zero-head-requires t c κs =
+row-is-zero-requires : (t : ℕ) → row-lts.Need-is-zero-requires (cs-row t) (row-at t) row.Post row-Inv-loop row-μ-loop
+row-is-zero-requires t c κs =
     let s = c .before .before .before .before .before .before .before .before .before in
     let size-at = c .before .before .before .before .before .size-at in
     let loop = c .before .before .before .before .loop in
@@ -249,7 +249,7 @@ row-returns-3 t c =
     let loop = c .before .before .before .before .before .before .before .loop in
     let loop-test = c .before .before .before .before .before .before .loop-test in
     let slot = c .before .before .before .before .before .slot in
-    let zero-head = c .before .before .zero-head in
+    let is-zero = c .before .before .is-zero in
     let place = c .before .place in
     let if3 = c .if3 in
     let h = s .pre .1 in
@@ -273,8 +273,8 @@ row-returns-3 t c =
     (slot .ensures ∙ ap (λ (m : ℕ). s .args .a + 1 + m) ek)
     (count-at .ensures)
     (size-pos (s .args .d) (s .args .i))
-    (zero-head .result)
-    (zero-head .ensures)
+    (is-zero .result)
+    (is-zero .ensures)
     (place .result)
     (place .ensures)
     (not-true _ (if3 .taken))
@@ -297,7 +297,7 @@ row-loop-again t c =
     let slot = c .before .before .before .before .before .slot in
     let element = c .before .before .before .before .element in
     let if2 = c .before .before .before .if2 in
-    let zero-head = c .before .before .zero-head in
+    let is-zero = c .before .before .is-zero in
     let place = c .before .place in
     let if3 = c .if3 in
     let h = s .pre .1 in
@@ -322,8 +322,8 @@ row-loop-again t c =
           (slot .ensures ∙ ap (λ (m : ℕ). s .args .a + 1 + m) ek)
           (count-at .ensures)
           (size-pos (s .args .d) (s .args .i))
-          (zero-head .result)
-          (zero-head .ensures)
+          (is-zero .result)
+          (is-zero .ensures)
           (element .result)
           (place .result)
           (element .ensures)
@@ -374,8 +374,8 @@ pub +element+row-spec : {M : Type 1} → statement M
       slot-reads.Learnt,
       element-below t,
       element.Post,
-      zero-head-reads.Asked,
-      zero-head-reads.Learnt,
+      is-zero-reads.Asked,
+      is-zero-reads.Learnt,
       place-reads.Asked,
       place-reads.Learnt,
     )
@@ -391,7 +391,7 @@ pub +element+row-spec : {M : Type 1} → statement M
     (row-slot-requires t)
     (row-element-requires t)
     (row-returns-2 t)
-    (row-zero-head-requires t)
+    (row-is-zero-requires t)
     (row-place-requires t)
     (row-returns-3 t)
     (row-add-k t)
