@@ -2,8 +2,9 @@
 --
 -- EqTest A      == equality by a test;  test-set == what has one is a set
 -- ZeroTest o z  == z tells whether an element is o
--- branch        == by cases on a test, with what it says;  both .. == two tests;  allTo == each number below n;  le-or-lt == two numbers
-use mathlib.Core.Path.{_≡_, sym, subst}
+-- branch        == by cases on a test, with what it says;  branch-yes == of a test that passes
+-- both ..       == two tests;  allTo == each number below n;  le-or-lt == two numbers
+use mathlib.Core.Path.{_≡_, refl, sym, subst}
 use mathlib.Core.Bool.{Bool, true, false, not, _&&_}
 use mathlib.Core.HLevel.{hedberg}
 use mathlib.Core.Logic.{_⊎_, inl, inr, ⊎-elim}
@@ -25,6 +26,9 @@ pub record ZeroTest {A : Type 0} (o : A) (z : A → Bool) : Type 0 where
 abbrev pub branch : {A : Type 0} (b : Bool) → (T b → A) → (T (not b) → A) → A
 branch true x y = x tt
 branch false x y = y tt
+
+pub branch-yes : {A : Type 0} (b : Bool) (f : T b → A) (g : T (not b) → A) (t : T b) → branch b f g ≡ f t
+branch-yes true f g t = refl
 
 pub test-complete : {A : Type 0} (E : EqTest A) {a b : A} → a ≡ b → T (E .eq a b)
 test-complete E {a} {b} p = subst (λ x. T (E .eq a x)) p (E .same a)

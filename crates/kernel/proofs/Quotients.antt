@@ -12,7 +12,7 @@ use mir.Val.{SFits, toZ as wordZ, ofZ}
 use mir.ValLaws.{toZ-ofZ}
 use borrow.Author.Tests.{lt-leb, lt-ltb}
 use Rattle.kernel.proofs.Told.{of-word}
-use Rattle.algebra.specs.Test.{branch}
+use Rattle.algebra.specs.Test.{branch, branch-yes}
 use Rattle.algebra.specs.Zmod.{Residue, toZ, residue-path}
 use Rattle.euclid.specs.Answer.{done, shown}
 use Rattle.euclid.specs.Number.{inverse₀, done₀, shown₀}
@@ -78,9 +78,6 @@ number-low true x f t h = rw h refl
 
 number-by : (b x : Bool) (f : T b → Bool) (t : T b) → x ≡ true → (y : Bool) → f t ≡ y → numberBy b x f ≡ unless y 10 0
 number-by true x f t h y k = rw (h, k) refl
-
-branch-yes : {A : Type 0} (b : Bool) (f : T b → A) (g : T (not b) → A) (t : T b) → branch b f g ≡ f t
-branch-yes true f g t = refl
 
 module _ (p n e : ℤ) where
   number-is : fractionNumber p e ≡ numberBy (pOk p) (ltZ (pos 0) e) (λ h. isGiven (inverseOf p e h))

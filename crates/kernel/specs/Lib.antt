@@ -4,3 +4,8 @@ pub mod Answers
 pub mod Shape
 pub mod Fractions
 pub mod Promises
+pub mod Meaning
+pub mod SlotMeaning
+pub mod FractionMeaning
+pub mod WorkMeaning
+pub mod Figures

@@ -3,13 +3,14 @@
 --
 -- Said, done, factor, refused == "Done, a shown factor with its level, and a refusal are three kinds of answer."
 -- Table, first                == rows of a number and a test; the first number whose test does not pass, 0 where all pass
+-- refusal, refusal-inj        == the answer that a number is, and that it tells the number
 -- first-append                == two tables, one behind the other
 -- passed-of, first-of         == no number is given exactly where every test passes
--- first-applies               == a number that is given is the first that applies, and comes only under its condition
-use Prim.Native.Nat.{ℕ, zero, suc, _≤_, _<_}
+-- first-applies               == a number that is given is the first that applies, and comes only under its condition;  first-is == the first that applies is given
+use Prim.Native.Nat.{ℕ, zero, suc, _≤_}
 use native.Mathlib.Nat.{not-suc-le-zero, lt-irrefl}
 use native.Mathlib.Omega.{arith}
-use mathlib.Core.Path.{_≡_, refl, ap, sym, _∙_, subst}
+use mathlib.Core.Path.{_≡_, refl, ap, sym, _∙_}
 use mathlib.Core.Bool.{Bool, true, false, not}
 use mathlib.Core.List.{List, [], _∷_, _++_}
 use mathlib.Core.Logic.{_⊎_, inl, inr}
@@ -61,6 +62,19 @@ first (row ∷ rows) = let rest : ℕ = first rows in unless (row .1 tt) (row .0
 abbrev pub refusal : ℕ → Said
 refusal zero = done
 refusal (suc k) = refused (suc k)
+
+-- and back: an answer's number
+abbrev numberOf : Said → ℕ
+numberOf done = 0
+numberOf (factor level) = 0
+numberOf (refused k) = k
+
+refusal-number : (k : ℕ) → numberOf (refusal k) ≡ k
+refusal-number zero = refl
+refusal-number (suc k) = refl
+
+pub refusal-inj : (j k : ℕ) → refusal j ≡ refusal k → j ≡ k
+refusal-inj j k h = sym (refusal-number j) ∙ ap numberOf h ∙ refusal-number k
 
 -- ---- two tables, one behind the other
 abbrev pub andThen : ℕ → ℕ → ℕ
@@ -115,3 +129,14 @@ first-applies (row ∷ rows) k h = which (row .1 tt) (first-applies rows k) h
     which : (b : Bool) → (first rows ≡ suc k → Applies rows (suc k)) → unless b (row .0) (first rows) ≡ suc k → (T (not b) × (row .0 ≡ suc k)) ⊎ (T b × Applies rows (suc k))
     which true later h = inr (tt, later h)
     which false later h = inl (tt, h)
+
+-- the first that applies is given
+pub first-is : (t : Table) (k : ℕ) → Applies t k → first t ≡ k
+first-is (row ∷ rows) k (inl h) = here (row .1 tt) (h .0) ∙ h .1
+  where
+    here : (b : Bool) → T (not b) → unless b (row .0) (first rows) ≡ row .0
+    here false h = refl
+first-is (row ∷ rows) k (inr h) = later (row .1 tt) (h .0) ∙ first-is rows k (h .1)
+  where
+    later : (b : Bool) → T b → unless b (row .0) (first rows) ≡ first rows
+    later true h = refl

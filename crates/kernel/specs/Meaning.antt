@@ -1,0 +1,171 @@
+-- What the numbers 0 to 3 say of a tower: no number exactly where p, N and the degrees are in range and the words are those of exactly one tower; each other
+-- number exactly where it is the first whose condition holds.
+--
+-- InRange p n e     == p, N and the degrees are in range;  ones == then 1 and 0 differ at every level
+-- TowerOf, wordsOf  == the towers that they allow, and their words
+-- TowerMeans        == for each number what it says; a number that is not used says ⊥
+-- tower-says        == a number that is given comes under its condition;  tower-given == and under its condition it is given
+-- tower-answers     == the same of what the call says
+-- tower-passes      == the words of every tower in range get no number;  tower-numbers == no number above 3 is given
+use Prim.Native.Nat.{ℕ, zero, suc, _<_, _≤_}
+use mathlib.Core.Path.{_≡_, refl, ap, subst}
+use mathlib.Core.Bool.{true, not}
+use mathlib.Core.Logic.{_↔_, inl, inr}
+use mathlib.Core.List.{List}
+use native.Mathlib.Nat.{lt-irrefl}
+use native.Mathlib.Omega.{arith}
+use lib.IntN.{ℤ, pos}
+use lib.Dec.{T, T-not, not-T, ltb, leb, leb→le, le→leb, lt→ltb}
+use lib.ListN.{getD}
+use Rattle.algebra.specs.Test.{branch, both-l, both-r, allTo-use}
+use Rattle.residue.specs.Word.{num}
+use Rattle.tower.specs.Levels.{Tower, Ones}
+use Rattle.tower.specs.Writing.{size, towerWords}
+use Rattle.tower.specs.Form.{towerForm}
+use Rattle.tower.specs.Lists.{to-true}
+use Rattle.tower.specs.Limits.{pOk, p-two, p-positive, levelsOk, degreeIn, degreesOk, degreesOf, sizeOk}
+use Rattle.tower.specs.Unique.{Exactly}
+use Rattle.tower.specs.TowerUnique.{tower-iff, tower-good}
+use Rattle.kernel.specs.Refusals.{refusal, refusal-inj, Numbered, passed-of, first-of, Applies, first-applies, first-is}
+use Rattle.kernel.specs.Calls.{towerTable, towerNumber, checkTower}
+
+-- p, N and the degrees are in range
+pub record InRange (p n : ℤ) (e : List ℤ) : Type 0 where
+  pub modulus : T (pOk p)
+  pub levels : T (levelsOk n)
+  pub degrees : T (degreesOk (num n) e)
+  pub few : size (degreesOf e) (num n) ≤ 2048
+
+-- the towers that p, N and the degrees allow, and their words
+abbrev pub TowerOf : ℤ → ℤ → List ℤ → Type 0
+TowerOf p n e = Tower (num p) (degreesOf e) (num n)
+
+abbrev pub wordsOf : (p n : ℤ) (e : List ℤ) → T (pOk p) → TowerOf p n e → List ℤ
+wordsOf p n e h = towerWords (num p) (p-positive p h) (degreesOf e) (num n)
+
+-- ---- 1 and 0 differ in every tower that is in range
+at-least-two : (g : ℤ) → T (degreeIn true g) → 2 ≤ num g
+at-least-two (pos m) h = leb→le 2 m (both-l (leb 2 m) _ h)
+
+at-most-four : (n : ℤ) → T (levelsOk n) → num n ≤ 4
+at-most-four (pos m) h = leb→le m 4 (both-r (leb 0 m) _ h)
+
+module _ (p n : ℤ) (e : List ℤ) (r : InRange p n e) where
+  degree-two : (k : ℕ) → k < 4 → k < num n → 2 ≤ num (getD e k (pos 0))
+  degree-two k q l =
+      let test = allTo-use 4 (λ j. degreeIn (ltb j (num n)) (getD e j (pos 0))) (r .degrees) k q in
+      at-least-two (getD e k (pos 0)) (subst (λ x. T (degreeIn x (getD e k (pos 0)))) (to-true (ltb k (num n)) (lt→ltb k (num n) l)) test)
+
+  degree-at : (k : ℕ) → k < num n → 2 ≤ getD (degreesOf e) k 0
+  degree-at zero l = degree-two 0 (omega arith) l
+  degree-at (suc zero) l = degree-two 1 (omega arith) l
+  degree-at (suc (suc zero)) l = degree-two 2 (omega arith) l
+  degree-at (suc (suc (suc zero))) l = degree-two 3 (omega arith) l
+  degree-at (suc (suc (suc (suc k)))) l = absurd (lt-irrefl 0 (omega (arith, at-most-four n (r .levels))))
+
+  pub ones : Ones (num p) (p-positive p (r .modulus)) (degreesOf e) (num n)
+  ones = record { p-two = p-two p (r .modulus); degrees = λ k l. (let h = degree-at k l in omega arith) }
+
+  form-held : (t : List ℤ) → T (towerForm (num p) (degreesOf e) (num n) t) ↔ Exactly (wordsOf p n e (r .modulus)) t
+  form-held t = tower-iff (num p) (p-positive p (r .modulus)) (degreesOf e) (num n) ones t
+
+  form-words : (τ : TowerOf p n e) → T (towerForm (num p) (degreesOf e) (num n) (wordsOf p n e (r .modulus) τ))
+  form-words τ = tower-good (num p) (p-positive p (r .modulus)) (degreesOf e) (num n) ones τ
+
+-- ---- what each number says of a tower
+-- 0: in range, and the words of exactly one tower
+pub record TowerHeld (p n : ℤ) (e t : List ℤ) : Type 0 where
+  pub range : InRange p n e
+  pub held : Exactly (wordsOf p n e (range .modulus)) t
+
+-- 2: p is in range, but N or the degrees are not
+pub record DegreesOut (p n : ℤ) (e : List ℤ) : Type 0 where
+  pub modulus : T (pOk p)
+  pub out : ¬ InRange p n e
+
+-- 3: all is in range, and no tower has these words
+pub record NoTower (p n : ℤ) (e t : List ℤ) : Type 0 where
+  pub range : InRange p n e
+  pub none : (τ : TowerOf p n e) → ¬ (wordsOf p n e (range .modulus) τ ≡ t)
+
+abbrev pub TowerMeans : ℤ → ℤ → List ℤ → List ℤ → ℕ → Type 0
+TowerMeans p n e t zero = TowerHeld p n e t
+TowerMeans p n e t (suc zero) = T (not (pOk p))
+TowerMeans p n e t (suc (suc zero)) = DegreesOut p n e
+TowerMeans p n e t (suc (suc (suc zero))) = NoTower p n e t
+TowerMeans p n e t (suc (suc (suc (suc k)))) = ⊥
+
+module _ (p n : ℤ) (e t : List ℤ) where
+  pub tower-numbered : Numbered (towerTable p n e t)
+  tower-numbered = (omega arith, (omega arith, (omega arith, (omega arith, (omega arith, tt)))))
+
+  size-test : T (sizeOk (degreesOf e) (num n)) → size (degreesOf e) (num n) ≤ 2048
+  size-test h = leb→le (size (degreesOf e) (num n)) 2048 h
+
+  test-size : size (degreesOf e) (num n) ≤ 2048 → T (sizeOk (degreesOf e) (num n))
+  test-size h = le→leb (size (degreesOf e) (num n)) 2048 h
+
+  no-tower : (r : InRange p n e) → T (not (towerForm (num p) (degreesOf e) (num n) t)) → (τ : TowerOf p n e) → ¬ (wordsOf p n e (r .modulus) τ ≡ t)
+  no-tower r h τ q = T-not (towerForm (num p) (degreesOf e) (num n) t) h (subst (λ w. T (towerForm (num p) (degreesOf e) (num n) w)) q (form-words p n e r τ))
+
+  applied : (k : ℕ) → Applies (towerTable p n e t) k → TowerMeans p n e t k
+  applied k (inl h) = subst (TowerMeans p n e t) (h .1) (h .0)
+  applied k (inr (a, inl h)) = subst (TowerMeans p n e t) (h .1) (record { modulus = a; out = λ r. T-not (levelsOk n) (h .0) (r .levels) })
+  applied k (inr (a, inr (b, inl h))) = subst (TowerMeans p n e t) (h .1) (record { modulus = a; out = λ r. T-not (degreesOk (num n) e) (h .0) (r .degrees) })
+  applied k (inr (a, inr (b, inr (c, inl h)))) =
+      subst (TowerMeans p n e t) (h .1) (record { modulus = a; out = λ r. T-not (sizeOk (degreesOf e) (num n)) (h .0) (test-size (r .few)) })
+  applied k (inr (a, inr (b, inr (c, inr (d, inl h))))) =
+      let r : InRange p n e = record { modulus = a; levels = b; degrees = c; few = size-test d } in
+      subst (TowerMeans p n e t) (h .1) (record { range = r; none = no-tower r (h .0) })
+  applied k (inr (a, inr (b, inr (c, inr (d, inr (f, none)))))) = absurd none
+
+  -- a number that is given comes under its condition, and 0 only where every test passes
+  pub tower-says : (k : ℕ) → towerNumber p n e t ≡ k → TowerMeans p n e t k
+  unfolding towerNumber
+  tower-says zero h =
+      let a = passed-of (towerTable p n e t) tower-numbered h in
+      let r : InRange p n e = record { modulus = a .0; levels = a .1 .0; degrees = a .1 .1 .0; few = size-test (a .1 .1 .1 .0) } in
+      record { range = r; held = form-held p n e r t .0 (a .1 .1 .1 .1 .0) }
+  tower-says (suc k) h = applied (suc k) (first-applies (towerTable p n e t) k h)
+
+  -- N or the degrees: the first of the three tests that does not pass
+  out-of : DegreesOut p n e → Applies (towerTable p n e t) 2
+  out-of h =
+      branch (levelsOk n)
+      (λ a. branch (degreesOk (num n) e)
+      (λ b. branch (sizeOk (degreesOf e) (num n))
+      (λ c. absurd (h .out (record { modulus = h .modulus; levels = a; degrees = b; few = size-test c })))
+      (λ c. inr (h .modulus, inr (a, inr (b, inl (c, refl))))))
+      (λ b. inr (h .modulus, inr (a, inl (b, refl)))))
+      (λ a. inr (h .modulus, inl (a, refl)))
+
+  -- under its condition a number is given
+  pub tower-given : (k : ℕ) → TowerMeans p n e t k → towerNumber p n e t ≡ k
+  unfolding towerNumber
+  tower-given zero h =
+      let r = h .range in
+      first-of (towerTable p n e t) (r .modulus, (r .levels, (r .degrees, (test-size (r .few), (form-held p n e r t .1 (h .held), tt)))))
+  tower-given (suc zero) h = first-is (towerTable p n e t) 1 (inl (h, refl))
+  tower-given (suc (suc zero)) h = first-is (towerTable p n e t) 2 (out-of h)
+  tower-given (suc (suc (suc zero))) h =
+      let r = h .range in
+      let bad = not-T (towerForm (num p) (degreesOf e) (num n) t) (λ f. (let x = form-held p n e r t .0 f in h .none (x .this) (x .holds))) in
+      first-is (towerTable p n e t) 3 (inr (r .modulus, inr (r .levels, inr (r .degrees, inr (test-size (r .few), inl (bad, refl))))))
+
+  -- the same of what the call says
+  pub tower-answers : (k : ℕ) → (checkTower p n e t ≡ refusal k) ↔ TowerMeans p n e t k
+  tower-answers k = (λ h. tower-says k (refusal-inj (towerNumber p n e t) k h), λ m. ap refusal (tower-given k m))
+
+-- the words of every tower in range get no number
+pub tower-passes : (p n : ℤ) (e : List ℤ) (r : InRange p n e) (τ : TowerOf p n e) → towerNumber p n e (wordsOf p n e (r .modulus) τ) ≡ 0
+tower-passes p n e r τ = tower-given p n e _ 0 (record { range = r; held = form-held p n e r (wordsOf p n e (r .modulus) τ) .0 (form-words p n e r τ) })
+
+-- no other number is given
+pub tower-numbers : (p n : ℤ) (e t : List ℤ) → towerNumber p n e t ≤ 3
+tower-numbers p n e t = used (towerNumber p n e t) (tower-says p n e t (towerNumber p n e t) refl)
+  where
+    used : (k : ℕ) → TowerMeans p n e t k → k ≤ 3
+    used zero h = omega arith
+    used (suc zero) h = omega arith
+    used (suc (suc zero)) h = omega arith
+    used (suc (suc (suc zero))) h = omega arith

@@ -1,0 +1,122 @@
+-- What the numbers 0, 2 and 5 say of the work sizes, and what the call gives with them.
+--
+-- DegreesIn n e  == N and the degrees are in range
+-- WorkMeans      == for each number what it says; a number that is not used says ⊥
+-- work-says      == a number that is given comes under its condition;  work-given == and under its condition it is given
+-- work-answers   == the same of what the call says;  work-gives == where no number is given it gives the formulas' three
+use Prim.Native.Nat.{ℕ, zero, suc, _≤_}
+use mathlib.Core.Path.{_≡_, refl, sym, ap, _∙_, subst}
+use mathlib.Core.Bool.{_&&_}
+use mathlib.Core.Logic.{_↔_, inl, inr}
+use mathlib.Core.List.{List}
+use native.Mathlib.Omega.{arith}
+use lib.IntN.{ℤ}
+use lib.Dec.{T, T-not, not-T, leb→le, le→leb}
+use Rattle.algebra.specs.Test.{branch, both, both-l, both-r}
+use Rattle.residue.specs.Word.{num}
+use Rattle.tower.specs.Writing.{size}
+use Rattle.tower.specs.Lists.{countOf}
+use Rattle.tower.specs.Limits.{levelsOk, degreesOk, degreesOf, sizeOk, workDegree}
+use Rattle.tower.specs.Work.{productWork, inverseWork, gcdWork}
+use Rattle.kernel.specs.Refusals.{done, refusal, refusal-inj, Numbered, passed-of, first-of, Applies, first-applies, first-is}
+use Rattle.kernel.specs.Calls.{Sizes, workTable, workNumber, sizesBy, workSizes}
+
+-- N and the degrees are in range
+pub record DegreesIn (n : ℤ) (e : List ℤ) : Type 0 where
+  pub levels : T (levelsOk n)
+  pub degrees : T (degreesOk (num n) e)
+  pub few : size (degreesOf e) (num n) ≤ 2048
+
+-- 0: all is in range, the degrees of a and b too
+pub record WorkHeld (n : ℤ) (e : List ℤ) (a b : ℤ) : Type 0 where
+  pub range : DegreesIn n e
+  pub a-in : T (workDegree a)
+  pub b-in : T (workDegree b)
+
+-- 5: N and the degrees are in range, but the degree of a or b is not
+pub record WorkOut (n : ℤ) (e : List ℤ) (a b : ℤ) : Type 0 where
+  pub range : DegreesIn n e
+  pub out : T (workDegree a) → ¬ T (workDegree b)
+
+abbrev pub WorkMeans : ℤ → List ℤ → ℤ → ℤ → ℕ → Type 0
+WorkMeans n e a b zero = WorkHeld n e a b
+WorkMeans n e a b (suc zero) = ⊥
+WorkMeans n e a b (suc (suc zero)) = ¬ DegreesIn n e
+WorkMeans n e a b (suc (suc (suc zero))) = ⊥
+WorkMeans n e a b (suc (suc (suc (suc zero)))) = ⊥
+WorkMeans n e a b (suc (suc (suc (suc (suc zero))))) = WorkOut n e a b
+WorkMeans n e a b (suc (suc (suc (suc (suc (suc k)))))) = ⊥
+
+module _ (n : ℤ) (e : List ℤ) (a b : ℤ) where
+  numbered : Numbered (workTable n e a b)
+  numbered = (omega arith, (omega arith, (omega arith, (omega arith, tt))))
+
+  size-test : T (sizeOk (degreesOf e) (num n)) → size (degreesOf e) (num n) ≤ 2048
+  size-test h = leb→le (size (degreesOf e) (num n)) 2048 h
+
+  test-size : size (degreesOf e) (num n) ≤ 2048 → T (sizeOk (degreesOf e) (num n))
+  test-size h = le→leb (size (degreesOf e) (num n)) 2048 h
+
+  applied : (k : ℕ) → Applies (workTable n e a b) k → WorkMeans n e a b k
+  applied k (inl h) = subst (WorkMeans n e a b) (h .1) (λ r. T-not (levelsOk n) (h .0) (r .levels))
+  applied k (inr (x, inl h)) = subst (WorkMeans n e a b) (h .1) (λ r. T-not (degreesOk (num n) e) (h .0) (r .degrees))
+  applied k (inr (x, inr (y, inl h))) = subst (WorkMeans n e a b) (h .1) (λ r. T-not (sizeOk (degreesOf e) (num n)) (h .0) (test-size (r .few)))
+  applied k (inr (x, inr (y, inr (z, inl h)))) =
+      subst (WorkMeans n e a b) (h .1) (record {
+        range = record { levels = x; degrees = y; few = size-test z };
+        out = λ i j. T-not (workDegree a && workDegree b) (h .0) (both (workDegree a) (workDegree b) i j);
+      })
+  applied k (inr (x, inr (y, inr (z, inr (w, none))))) = absurd none
+
+  pub work-says : (k : ℕ) → workNumber n e a b ≡ k → WorkMeans n e a b k
+  unfolding workNumber
+  work-says zero h =
+      let x = passed-of (workTable n e a b) numbered h in
+      record {
+        range = record { levels = x .0; degrees = x .1 .0; few = size-test (x .1 .1 .0) };
+        a-in = both-l (workDegree a) (workDegree b) (x .1 .1 .1 .0);
+        b-in = both-r (workDegree a) (workDegree b) (x .1 .1 .1 .0);
+      }
+  work-says (suc k) h = applied (suc k) (first-applies (workTable n e a b) k h)
+
+  -- N or the degrees: the first of the three tests that does not pass
+  out-of : ¬ DegreesIn n e → Applies (workTable n e a b) 2
+  out-of h =
+      branch (levelsOk n)
+      (λ x. branch (degreesOk (num n) e)
+      (λ y. branch (sizeOk (degreesOf e) (num n)) (λ z. absurd (h (record { levels = x; degrees = y; few = size-test z }))) (λ z. inr (x, inr (y, inl (z, refl)))))
+      (λ y. inr (x, inl (y, refl))))
+      (λ x. inl (x, refl))
+
+  pub work-given : (k : ℕ) → WorkMeans n e a b k → workNumber n e a b ≡ k
+  unfolding workNumber
+  work-given zero h =
+      let r = h .range in
+      first-of (workTable n e a b) (r .levels, (r .degrees, (test-size (r .few), (both (workDegree a) (workDegree b) (h .a-in) (h .b-in), tt))))
+  work-given (suc (suc zero)) h = first-is (workTable n e a b) 2 (out-of h)
+  work-given (suc (suc (suc (suc (suc zero))))) h =
+      let r = h .range in
+      let bad = not-T (workDegree a && workDegree b) (λ t. h .out (both-l (workDegree a) (workDegree b) t) (both-r (workDegree a) (workDegree b) t)) in
+      first-is (workTable n e a b) 5 (inr (r .levels, inr (r .degrees, inr (test-size (r .few), inl (bad, refl)))))
+
+  -- ---- what the call says and gives
+  said-is : (k m i g : ℕ) → sizesBy k m i g .said ≡ refusal k
+  said-is zero m i g = refl
+  said-is (suc k) m i g = refl
+
+  pub work-answers : (k : ℕ) → (workSizes n e a b .said ≡ refusal k) ↔ WorkMeans n e a b k
+  work-answers k =
+      let is = said-is (workNumber n e a b) _ _ _ in
+      (λ h. work-says k (refusal-inj (workNumber n e a b) k (sym is ∙ h)), λ m. is ∙ ap refusal (work-given k m))
+
+  abbrev by : ℕ → Sizes
+  by k = sizesBy k (productWork (degreesOf e) (num n)) (inverseWork (degreesOf e) (num n)) (gcdWork (degreesOf e) (num n) (countOf a) (countOf b))
+
+  pub work-gives : WorkHeld n e a b → workSizes n e a b
+      ≡ record {
+        said = done;
+        product = productWork (degreesOf e) (num n);
+        inverse = inverseWork (degreesOf e) (num n);
+        gcd = gcdWork (degreesOf e) (num n) (countOf a) (countOf b);
+      }
+  work-gives h = ap by (work-given 0 h)
