@@ -4,3 +4,4 @@ pub mod Order
 pub mod Working
 pub mod Shapes
 pub mod Quotients
+pub mod Summing

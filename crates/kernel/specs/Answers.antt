@@ -1,5 +1,5 @@
 -- The answer enum, by document 01's kinds and numbers.
-use mathlib.Core.Path.{_≡_, refl, ap}
+use mathlib.Core.Path.{_≡_, refl}
 use Prim.Native.Nat.{ℕ}
 use native.Mathlib.Omega.{arith}
 use Rattle.kernel.specs.declared.Answer.{Answer}

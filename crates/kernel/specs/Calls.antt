@@ -2,10 +2,10 @@
 --
 -- towerTable, slotTable, workTable  == the tests of a call in the order of document 01's numbers;  towerNumber .. == the number that they give, 0 for none
 -- checkTower, checkSlot, workSizes, fraction == what the calls give
-use Prim.Native.Nat.{ℕ, zero, suc, _*_, _%_, _<_}
+use Prim.Native.Nat.{ℕ, zero, suc, _*_, _%_}
 use mathlib.Core.Bool.{Bool, true, false, _&&_}
 use mathlib.Core.List.{List, [], _∷_, _++_}
-use lib.IntN.{ℤ, pos, negsuc}
+use lib.IntN.{ℤ, pos}
 use lib.Dec.{T}
 use lib.Signed.{ltZ}
 use lib.ListN.{length}

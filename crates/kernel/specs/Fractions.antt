@@ -1,5 +1,5 @@
 -- What the parts of the fraction's call give.
-use Prim.Native.Nat.{ℕ, _*_, _%_, _<_, _≤_, _∣_}
+use Prim.Native.Nat.{ℕ, _*_, _%_}
 use mathlib.Core.Path.{_≡_}
 use lib.IntN.{ℤ}
 use Rattle.residue.specs.Word.{modZ}

@@ -1,5 +1,6 @@
 pub mod Refusals
 pub mod Calls
+pub mod Sums
 pub mod Answers
 pub mod Shape
 pub mod Fractions
@@ -8,4 +9,5 @@ pub mod Meaning
 pub mod SlotMeaning
 pub mod FractionMeaning
 pub mod WorkMeaning
+pub mod SumMeaning
 pub mod Figures

@@ -1,8 +1,9 @@
 -- The promises of the public calls, as their contracts cite them, and that each determines what the call gives: two results that it allows are equal.
 -- Lists that are lent to be read only cannot change, by their type.
 --
--- TowerChecked, SlotChecked, SizesGiven, FractionGiven == the promises;  .. -determined == two results that a promise allows are equal
+-- TowerChecked, SlotChecked, SizesGiven, FractionGiven, SumGiven == the promises;  .. -determined == two results that a promise allows are equal
 use mathlib.Core.Path.{_≡_, sym, _∙_}
+use mathlib.Core.Bool.{Bool}
 use mathlib.Core.List.{List}
 use lib.IntN.{ℤ}
 use Rattle.kernel.specs.declared.Answer.{Answer}
@@ -10,6 +11,7 @@ use Rattle.kernel.specs.declared.WorkSizes.{WorkSizes}
 use Rattle.kernel.specs.declared.FractionResidue.{FractionResidue}
 use Rattle.kernel.specs.Answers.{said, said-inj}
 use Rattle.kernel.specs.Calls.{checkTower, checkSlot, workSizes, fraction}
+use Rattle.kernel.specs.Sums.{sum}
 
 pub record TowerChecked (p n : ℤ) (e t : List ℤ) (r : Answer) : Type 0 where
   pub answer : said r ≡ checkTower p n e t
@@ -46,3 +48,11 @@ fraction-determined p n e r s h k =
     let answer = said-inj (r .answer) (s .answer) (h .answer ∙ sym (k .answer)) in
     let residue = h .residue ∙ sym (k .residue) in
     λ i. record { answer = answer i; residue = residue i }
+
+-- sum and difference: the answer, and a's words afterwards
+pub record SumGiven (neg : Bool) (p n : ℤ) (e t a b : List ℤ) (r : Answer) (a′ : List ℤ) : Type 0 where
+  pub answer : said r ≡ sum neg p n e t a b .said
+  pub words : a′ ≡ sum neg p n e t a b .words
+
+pub sum-determined : (neg : Bool) (p n : ℤ) (e t a b : List ℤ) (r s : Answer) (u v : List ℤ) → SumGiven neg p n e t a b r u → SumGiven neg p n e t a b s v → (r ≡ s) × (u ≡ v)
+sum-determined neg p n e t a b r s u v h k = (said-inj r s (h .answer ∙ sym (k .answer)), h .words ∙ sym (k .words))

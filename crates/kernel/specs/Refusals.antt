@@ -41,6 +41,10 @@ bad-length = 4
 abbrev pub bad-form : ℕ
 bad-form = 5
 
+-- "answer slot too small"
+abbrev pub small-answer : ℕ
+small-answer = 6
+
 -- "fraction without residue"
 abbrev pub no-residue : ℕ
 no-residue = 10

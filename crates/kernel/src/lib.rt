@@ -2,8 +2,10 @@
 // specs/Calls.antt, and the promises cite it by name (specs/Promises.antt).
 pub mod fractions;
 pub mod numbers;
+pub mod sums;
 
-ghost use Rattle.kernel.specs.Promises.{TowerChecked, SlotChecked, SizesGiven, FractionGiven};
+ghost use Rattle.kernel.specs.Promises.{TowerChecked, SlotChecked, SizesGiven, FractionGiven, SumGiven};
+ghost use mathlib.Core.Bool.{true, false};
 use fractions::no_fraction;
 use fractions::quotient;
 use numbers::BAD_MODULUS;
@@ -13,6 +15,7 @@ use numbers::shape_of;
 use numbers::slot_number;
 use numbers::tower_number;
 use numbers::work_number;
+use sums::gained;
 use tower::limits::p_ok;
 use tower::words::as_p;
 use tower::words::count;
@@ -100,4 +103,18 @@ pub fn residue_of_fraction(p: i64, n: i64, e: i64) -> FractionResidue
         return no_fraction(NO_RESIDUE);
     }
     quotient(n, residue::number(e), as_p(p))
+}
+
+// Sum: a + b, which replaces a. Refuses 1 to 6. Writes a's slot, the whole of it after Done and nothing when refused.
+pub fn sum(p: i64, n: i64, e: [i64; 4], t: &[i64], a: &mut [i64], b: &[i64]) -> Answer
+    ensures given { λ r. ⌜ SumGiven false p n e (now (t .entry)) (now (a .entry)) (now (b .entry)) r (now (a .exit)) ⌝ }
+{
+    gained(false, p, n, e, t, a, b)
+}
+
+// Difference: a - b, which replaces a. Refuses 1 to 6. Writes a's slot, the whole of it after Done and nothing when refused.
+pub fn difference(p: i64, n: i64, e: [i64; 4], t: &[i64], a: &mut [i64], b: &[i64]) -> Answer
+    ensures given { λ r. ⌜ SumGiven true p n e (now (t .entry)) (now (a .entry)) (now (b .entry)) r (now (a .exit)) ⌝ }
+{
+    gained(true, p, n, e, t, a, b)
 }

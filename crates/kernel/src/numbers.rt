@@ -1,6 +1,7 @@
 // The numbers of document 01's table: 0 where none applies.
 ghost use mathlib.Core.Path.{_≡_};
 ghost use mathlib.Core.Bool.{true};
+ghost use Prim.Native.Nat.{_<_};
 ghost use lib.ListN.{length};
 ghost use Rattle.tower.specs.Form.{towerForm, slotForm};
 ghost use Rattle.tower.specs.Limits.{slotLength, slotCount};
@@ -33,6 +34,8 @@ pub const BAD_TOWER: usize = 3;
 pub const BAD_LENGTH: usize = 4;
 
 pub const BAD_FORM: usize = 5;
+
+pub const SMALL_ANSWER: usize = 6;
 
 pub const NO_RESIDUE: usize = 10;
 
@@ -103,6 +106,14 @@ pub fn tower_ok(s: Shape, p: u64, t: &[i64]) -> bool
     tower(s.levels, d, z, p, t)
 }
 
+// The coefficients of a slot of l words over elements of s words.
+pub fn coefficients(s: usize, l: usize) -> usize
+    requires { ⌜ (0 < s) × (0 < l) ⌝ }
+    ensures { λ r. ⌜ r ≡ slotCount s l ⌝ }
+{
+    (l - 1) / s
+}
+
 // A slot of a length that is allowed is in form over a tower of this shape.
 pub fn slot_ok(s: Shape, p: u64, a: &[i64]) -> bool
     requires { ⌜ Known s × (slotLength (s .size) (length (now a)) ≡ true) ⌝ }
@@ -110,8 +121,7 @@ pub fn slot_ok(s: Shape, p: u64, a: &[i64]) -> bool
 {
     let d = s.degrees;
     let z = s.sizes;
-    let k = (a.len() - 1) / s.size;
-    row(s.levels, k, d, z, p, a, 0)
+    row(s.levels, coefficients(s.size, a.len()), d, z, p, a, 0)
 }
 
 // Number 1 to 3 or 0, of a tower.

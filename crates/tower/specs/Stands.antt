@@ -4,7 +4,7 @@
 -- SlotStands p d i k v w a   == those of a slot of k coefficients of level i
 -- zero-told, zero-iff        == the first word is that of a zero precisely when x is zero
 -- count-told, degree-told    == the degree word counts the coefficients up to the highest that is not zero;  count-few == at most k
--- slot-of                    == an element of level i + 1 is a slot of d_(i+1) coefficients of level i
+-- slot-of                    == an element of level i + 1 is a slot of d_(i+1) coefficients of level i;  slot-stands == words in form hold a slot
 -- zero-long, one-long        == the zero and the one of level i have S_i words;  zero-stands, one-stands == written, they stand there
 use Prim.Native.Nat.{ℕ, zero, suc, _+_, _-_, _*_, _<_, _≤_}
 use mathlib.Core.Path.{_≡_, refl, sym, ap, _∙_, subst}
@@ -15,17 +15,18 @@ use native.Mathlib.Omega.{arith}
 use lib.IntN.{ℤ, pos}
 use lib.Dec.{T}
 use lib.ListN.{length, getD, length-append}
+use lib.Seq.{take-all}
 use Rattle.algebra.specs.Vec.{Vec}
 use Rattle.tower.specs.Levels.{degree, El, isZero, group, zero-test, Tower, ring, Ones}
-use Rattle.tower.specs.Writing.{size, size-zero, size-suc, degreeWord, write, read, write-suc, slot}
-use Rattle.tower.specs.Form.{eqZ, same, seg, copies, zeroWords, oneWords}
+use Rattle.tower.specs.Writing.{size, size-zero, size-suc, degreeWord, write, read, write-suc, slot, slot-long, unslot}
+use Rattle.tower.specs.Form.{eqZ, same, seg, copies, zeroWords, oneWords, slotForm}
 use Rattle.tower.specs.Lists.{countOf, same-sound, same-eq, seg-at, copies-long}
 use Rattle.tower.specs.Coding.{countᵛ, Counts, count-low, count-counts}
 use Rattle.tower.specs.Heads.{headOf, bool-eq, zero-head}
 use Rattle.tower.specs.Ready.{Positive}
 use Rattle.tower.specs.Store.{Put, put-seg}
 use Rattle.tower.specs.TowerUnique.{write-one}
-use Rattle.tower.specs.Unique.{laws}
+use Rattle.tower.specs.Unique.{laws, slot-unslot}
 
 abbrev pub Stands : (p : ℕ) (d : List ℕ) (i : ℕ) → El p d i → List ℤ → ℕ → Type 0
 Stands p d i x w a = seg a (size d i) w ≡ write p d i x
@@ -112,3 +113,10 @@ module _ (p : ℕ) (p-pos : 0 < p) (d : List ℕ) where
 
     pub one-stands : (t : Tower p d i) → Ones p p-pos d i → (u : List ℤ) → Put a (oneWords d i) u w → Stands p d i (ring p p-pos d i t .𝟙) w a
     one-stands t o u q = put-seg (size d i) (one-long d i (record { some = o .degrees })) q ∙ sym (write-one p p-pos d i t o)
+
+  -- words in form hold a slot from their beginning
+  pub slot-stands : (i k : ℕ) (w : List ℤ) → T (slotForm p d i k w) → SlotStands p d i k (unslot p p-pos d i k w) w 0
+  slot-stands i k w h =
+      let e = slot-unslot p p-pos d i k w h in
+      let n : length w ≡ 1 + k * size d i = sym (ap length e) ∙ slot-long p d i k (unslot p p-pos d i k w) in
+      take-all (k * size d i + 1) w (omega arith) ∙ sym e

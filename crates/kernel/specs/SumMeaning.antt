@@ -1,0 +1,75 @@
+-- What sum and difference leave in a's slot where no number is given: the whole of the sum.
+--
+-- sum-modulus      == then p is in range
+-- sum-words        == a's slot afterwards holds sumOf
+-- sum-coefficients == its coefficient at every place is that of a plus, or minus, that of b
+use Prim.Native.Nat.{ℕ, _≤_, _<_}
+use native.Mathlib.Omega.{arith}
+use mathlib.Core.Path.{_≡_, sym, ap, ap₂, _∙_}
+use mathlib.Core.Bool.{Bool}
+use mathlib.Core.List.{List}
+use mathlib.Core.Logic.{_⊎_, inl, inr}
+use lib.IntN.{ℤ}
+use lib.Dec.{T, leb, leb→le}
+use Rattle.algebra.specs.Ring.{Group}
+use Rattle.algebra.specs.Test.{branch-yes, both-r, le-or-lt}
+use Rattle.algebra.specs.Vec.{Vec, coef, coef-below}
+use Rattle.arithmetic.specs.Sum.{gained, gained-zero, gained-at, slotGained}
+use Rattle.residue.specs.Word.{num}
+use Rattle.tower.specs.Form.{slotForm}
+use Rattle.tower.specs.Levels.{group}
+use Rattle.tower.specs.Limits.{pOk, p-positive, degreesOf}
+use Rattle.tower.specs.Stands.{slot-stands, degree-told}
+use Rattle.tower.specs.Writing.{slot}
+use Rattle.kernel.specs.Refusals.{Numbered, Passed, passed-of}
+use Rattle.kernel.specs.Sums.{coefficientsOf, degreeCount, polynomialOf, sumTable, sumNumber, sumOf, sumBy, sumWords, changedBy, sum}
+
+-- nothing is lost: a polynomial that is zero from k on fits k coefficients
+pub gained-whole : (G : Group) (neg : Bool) (k l : ℕ) (u : Vec (G .Car) k) (v : Vec (G .Car) l) → ((j : ℕ) → k ≤ j → coef (G .𝟘) l v j ≡ G .𝟘)
+    → (j : ℕ) → coef (G .𝟘) k (slotGained G neg k l u v) j ≡ gained G neg (coef (G .𝟘) k u j) (coef (G .𝟘) l v j)
+gained-whole G neg k l u v h j = which (le-or-lt k j)
+  where
+    which : (k ≤ j) ⊎ (j < k) → coef (G .𝟘) k (slotGained G neg k l u v) j ≡ gained G neg (coef (G .𝟘) k u j) (coef (G .𝟘) l v j)
+    which (inr q) = gained-at G neg k l u v j q
+    which (inl q) =
+        coef-below (G .𝟘) k _ j q ∙ sym (ap₂ (gained G neg) (coef-below (G .𝟘) k u j q) (h j q) ∙ gained-zero G neg (G .𝟘))
+
+-- number by number, as the tests stand
+sum-numbered : (p n : ℤ) (e t a b : List ℤ) → Numbered (sumTable p n e t a b)
+sum-numbered p n e t a b = (omega arith, (omega arith, (omega arith, (omega arith, (omega arith, (omega arith, (omega arith, (omega arith, tt))))))))
+
+module _ (p n : ℤ) (e t a b : List ℤ) (h : sumNumber p n e t a b ≡ 0) where
+  tests : Passed (sumTable p n e t a b)
+  unfolding sumNumber
+  tests = passed-of (sumTable p n e t a b) (sum-numbered p n e t a b) h
+
+  -- p is in range
+  pub sum-modulus : T (pOk p)
+  sum-modulus = tests .0
+
+  abbrev pub sumGroup : Group
+  sumGroup = group (num p) (p-positive p sum-modulus) (degreesOf e) (num n)
+
+  -- the coefficients of what a slot holds, 0 above it
+  abbrev pub coefficientsIn : List ℤ → ℕ → sumGroup .Car
+  coefficientsIn x j = coef (sumGroup .𝟘) (coefficientsOf n e x) (polynomialOf p n e sum-modulus (coefficientsOf n e x) x) j
+
+  form-b : T (slotForm (num p) (degreesOf e) (num n) (coefficientsOf n e b) b)
+  form-b = both-r (slotForm (num p) (degreesOf e) (num n) (coefficientsOf n e a) a) _ (tests .1 .1 .1 .1 .1 .1 .0)
+
+  fits-b : degreeCount b ≤ coefficientsOf n e a
+  fits-b = leb→le (degreeCount b) (coefficientsOf n e a) (both-r (leb (degreeCount a) (coefficientsOf n e a)) _ (tests .1 .1 .1 .1 .1 .1 .1 .0))
+
+  none : (j : ℕ) → coefficientsOf n e a ≤ j → coefficientsIn b j ≡ sumGroup .𝟘
+  none j q =
+      let stands = slot-stands (num p) (p-positive p sum-modulus) (degreesOf e) (num n) (coefficientsOf n e b) b form-b in
+      degree-told (num p) (p-positive p sum-modulus) (degreesOf e) (num n) b 0 (coefficientsOf n e b) _ stands .rest j (omega (arith, fits-b))
+
+  pub sum-coefficients : (neg : Bool) (j : ℕ)
+      → coef (sumGroup .𝟘) (coefficientsOf n e a) (sumOf neg p n e a b sum-modulus) j ≡ gained sumGroup neg (coefficientsIn a j) (coefficientsIn b j)
+  sum-coefficients neg j = gained-whole sumGroup neg (coefficientsOf n e a) (coefficientsOf n e b) _ _ none j
+
+  -- and these are the words of a's slot afterwards
+  pub sum-words : (neg : Bool) → sum neg p n e t a b .words ≡ slot (num p) (degreesOf e) (num n) (coefficientsOf n e a) (sumOf neg p n e a b sum-modulus)
+  unfolding sumWords
+  sum-words neg = ap (λ k. changedBy k (sumWords neg p n e a b) a .words) h ∙ branch-yes (pOk p) (sumBy neg p n e a b) (λ _. a) sum-modulus
