@@ -4,6 +4,7 @@
 -- Figures == the table;  figures == that it holds
 use Prim.Native.Nat.{ℕ, _+_, _*_}
 use mathlib.Core.Path.{_≡_, refl, ap, _∙_, subst}
+use mathlib.Core.Bool.{true, false}
 use mathlib.Core.List.{List, [], _∷_, _++_}
 use native.Mathlib.Nat.{lt-irrefl}
 use native.Mathlib.Omega.{arith}
@@ -13,13 +14,14 @@ use lib.ListN.{length}
 use Rattle.algebra.specs.Vec.{zeroᵛ}
 use Rattle.euclid.specs.Number.{rows, inverse₀}
 use Rattle.tower.specs.Levels.{group}
-use Rattle.tower.specs.Writing.{size, slot-long}
+use Rattle.tower.specs.Writing.{size, read, reads, write, writes, slot-long}
 use Rattle.tower.specs.Form.{copies, zeroWords, formOver, inForm, oneWords, modulusOver, towerForm}
 use Rattle.tower.specs.Limits.{slotLength}
 use Rattle.tower.specs.Unique.{slotCoding}
 use Rattle.tower.specs.Work.{productWork, inverseWork, gcdWork}
 use Rattle.kernel.specs.Refusals.{Said, done, refused, refusal}
 use Rattle.kernel.specs.Calls.{sizeOf, towerNumber, checkTower, slotNumber, checkSlot, Sizes, workNumber, workSizes, Fraction, fractionNumber, fractionResidue, fraction}
+use Rattle.kernel.specs.Sums.{Changed, sumNumber, sumWords, sum}
 use Rattle.kernel.specs.Meaning.{tower-says}
 use Rattle.kernel.specs.SlotMeaning.{PolynomialOf, slotOf, slot-passes, slot-given}
 
@@ -67,6 +69,23 @@ check7 t = checkTower (pos 7) (pos 1) (degrees 2 0) t
 
 abbrev pub slot7 : List ℤ → Said
 slot7 a = checkSlot (pos 7) (pos 1) (degrees 2 0) (plain (2 ∷ 5 ∷ 0 ∷ 1 ∷ [])) a
+
+-- what a sum leaves: Done and the words of a's slot, or a refusal and a as found
+abbrev pub left : List ℤ → Changed
+left a = record { said = done; words = a }
+
+abbrev pub kept : ℕ → List ℤ → Changed
+kept k a = record { said = refused k; words = a }
+
+-- p = 6, N = 0
+abbrev pub plus6 : List ℤ → List ℤ → Changed
+plus6 a b = sum false (pos 6) (pos 0) (degrees 0 0) [] a b
+
+abbrev pub minus6 : List ℤ → List ℤ → Changed
+minus6 a b = sum true (pos 6) (pos 0) (degrees 0 0) [] a b
+
+abbrev pub minus7 : List ℤ → List ℤ → Changed
+minus7 a b = sum true (pos 7) (pos 1) (degrees 2 0) (plain (2 ∷ 5 ∷ 0 ∷ 1 ∷ [])) a b
 
 pub record Figures : Type 0 where
   -- C1 "p = 1 gives 1; 2 and 2,147,483,647 pass; 2,147,483,648 gives 1."
@@ -132,6 +151,15 @@ pub record Figures : Type 0 where
   pub five-levels : (e t : List ℤ) → checkTower (pos 7) (pos 5) e t ≡ refused 2
   pub below-zero : (e t : List ℤ) → checkTower (pos 7) (negsuc 0) e t ≡ refused 2
   pub not-used : (t : List ℤ) → checkTower (pos 7) (pos 1) (degrees 2 3) t ≡ refused 2
+  -- sums and differences: modulo 6 the leading coefficients cancel; over T7 a - a is the zero slot; b may stand in a longer slot; no room for x in one coefficient
+  pub sum-falls : plus6 (plain (1 ∷ 1 ∷ 3 ∷ [])) (plain (1 ∷ 2 ∷ 3 ∷ [])) ≡ left (plain (0 ∷ 3 ∷ 0 ∷ []))
+  pub minus-order : minus6 (plain (0 ∷ 1 ∷ [])) (plain (0 ∷ 3 ∷ [])) ≡ left (plain (0 ∷ 4 ∷ []))
+  pub minus-same : minus7 (plain (1 ∷ 1 ∷ 0 ∷ 6 ∷ 0 ∷ 1 ∷ 0 ∷ [])) (plain (1 ∷ 1 ∷ 0 ∷ 6 ∷ 0 ∷ 1 ∷ 0 ∷ [])) ≡ left (negsuc 0 ∷ negsuc 0 ∷ pos 0 ∷ pos 0 ∷ negsuc 0 ∷ pos 0 ∷ pos 0 ∷ [])
+  pub sum-longer : plus6 (plain (0 ∷ 5 ∷ [])) (plain (0 ∷ 5 ∷ 0 ∷ [])) ≡ left (plain (0 ∷ 4 ∷ []))
+  pub sum-room : plus6 (plain (0 ∷ 5 ∷ [])) (plain (1 ∷ 0 ∷ 1 ∷ [])) ≡ kept 6 (plain (0 ∷ 5 ∷ []))
+  -- 4 before 5: a not in form, b without a coefficient
+  pub sum-first : plus6 (plain (0 ∷ 6 ∷ [])) (plain (0 ∷ [])) ≡ kept 4 (plain (0 ∷ 6 ∷ []))
+  pub sum-form : plus6 (plain (0 ∷ 5 ∷ [])) (plain (0 ∷ 6 ∷ [])) ≡ kept 5 (plain (0 ∷ 5 ∷ []))
 
 tower-computes : towerNumber (pos 7) (pos 2) (degrees 64 31) powers ≡ 0
 unfolding size zeroWords formOver inForm oneWords modulusOver towerForm towerNumber
@@ -162,7 +190,7 @@ zero-slot k = slotCoding 7 (lit< tt) d64 2 k .write-zero
 
 pub figures : Figures
 unfolding size zeroWords formOver inForm oneWords modulusOver towerForm slotLength productWork inverseWork gcdWork
-    inverse₀ rows towerNumber slotNumber workNumber fractionNumber fractionResidue
+    inverse₀ rows towerNumber slotNumber workNumber fractionNumber fractionResidue sumNumber sumWords read reads write writes
 figures = record {
   c1-one = λ n e t. refl;
   c1-two = refl;
@@ -217,4 +245,11 @@ figures = record {
   five-levels = λ e t. refl;
   below-zero = λ e t. refl;
   not-used = λ t. refl;
+  sum-falls = refl;
+  minus-order = refl;
+  minus-same = refl;
+  sum-longer = refl;
+  sum-room = refl;
+  sum-first = refl;
+  sum-form = refl;
 }
