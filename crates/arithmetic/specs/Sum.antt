@@ -16,10 +16,9 @@ use lib.ListN.{length, getD}
 use Rattle.algebra.specs.Ring.{Group, negative-zero}
 use Rattle.algebra.specs.Vec.{Vec, coef, trunc, vecGroup, negᵛ, coef-inj, coef-trunc, coef-below, coef-add, coef-neg}
 use Rattle.tower.specs.Levels.{El, group}
-use Rattle.tower.specs.Writing.{size, write, slot}
+use Rattle.tower.specs.Writing.{size, write, slot, countOf}
 use Rattle.algebra.specs.Zmod.{Residue}
 use Rattle.residue.specs.Number.{Modulus}
-use Rattle.tower.specs.Lists.{countOf}
 use Rattle.tower.specs.Ready.{Sized}
 use Rattle.tower.specs.Store.{Put}
 use Rattle.tower.specs.Stands.{Stands, SlotStands}

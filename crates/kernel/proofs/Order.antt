@@ -72,9 +72,6 @@ pub zero-then : (a b : ℕ) → 0 ≡ andThen a b → 0 ≡ a
 zero-then zero b h = refl
 zero-then (suc a) b h = h
 
-pub tower-passed : (p n : ℤ) (e t : List ℤ) → 0 ≡ towerNumber p n e t → Passed n e
-tower-passed p n e t h = base-passed p n e (zero-then (baseNumber p n e) (unless (towerForm (num p) (degreesOf e) (num n) t) 3 0) (h ∙ tower-is p n e t))
-
 pub passed-small : (n : ℤ) (e : List ℤ) → Passed n e → Small (degreesOf e)
 passed-small n e h = small-of (num n) e (h .degrees)
 

@@ -9,8 +9,9 @@ use Rattle.kernel.specs.Promises.{SizesGiven}
 use Rattle.kernel.specs.Refusals.{done, refused, first-append, unless, andThen}
 use Rattle.residue.specs.Word.{num}
 use Rattle.tower.proofs.Laws.{and-false-l, and-false-r}
+use Rattle.tower.specs.Writing.{countOf}
 use Rattle.tower.specs.Limits.{degreesOf, degreeIn, degreesOk, workDegree}
-use Rattle.tower.specs.Lists.{of-true, countOf}
+use Rattle.tower.specs.Lists.{of-true}
 use Rattle.tower.specs.Work.{productWork, inverseWork, gcdWork}
 use Rattle.kernel.specs.declared.WorkSizes.{WorkSizes}
 use Rattle.kernel.specs.declared.Answer.the-variants.{Done, Refused}

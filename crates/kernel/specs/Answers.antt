@@ -6,6 +6,7 @@ use Rattle.kernel.specs.declared.Answer.{Answer}
 use Rattle.kernel.specs.declared.Answer.the-variants.{Done, Factor, Refused}
 use Rattle.kernel.specs.Refusals.{Said, done, factor, refused}
 
+-- what an answer of the program says
 abbrev pub said : Answer → Said
 said Done = done
 said (Factor level) = factor level

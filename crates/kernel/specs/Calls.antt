@@ -1,4 +1,4 @@
--- What each public call gives, for every input: the numbers that nobody has looked at, and the lent words. This is the file that a reader must believe.
+-- What each public call gives, for every input: the numbers that nobody has looked at, and the lent words. What these definitions stand on is listed in docs/MATHEMATICS.md.
 --
 -- towerTable, slotTable, workTable  == the tests of a call in the order of document 01's numbers;  towerNumber .. == the number that they give, 0 for none
 -- checkTower, checkSlot, workSizes, fraction == what the calls give
@@ -13,10 +13,9 @@ use Rattle.algebra.specs.Test.{branch}
 use Rattle.algebra.specs.Zmod.{Residue, toZ}
 use Rattle.euclid.specs.Answer.{Answer, done as done-with, shown, long}
 use Rattle.euclid.specs.Number.{inverse₀}
-use Rattle.tower.specs.Writing.{size}
+use Rattle.tower.specs.Writing.{size, countOf}
 use Rattle.residue.specs.Word.{num, modZ}
 use Rattle.tower.specs.Form.{towerForm, slotForm}
-use Rattle.tower.specs.Lists.{countOf}
 use Rattle.tower.specs.Limits.{pOk, p-positive, levelsOk, degreesOk, degreesOf, sizeOk, slotLength, slotCount, workDegree}
 use Rattle.tower.specs.Work.{productWork, inverseWork, gcdWork}
 use Rattle.kernel.specs.Refusals.{Said, done, refused, bad-modulus, bad-degrees, bad-tower, bad-length, bad-form, no-residue, Table, first, refusal}
@@ -32,15 +31,18 @@ shapeTable n e =
 unfoldable pub shapeNumber : ℤ → List ℤ → ℕ
 shapeNumber n e = first (shapeTable n e)
 
+-- p before them
 abbrev pub baseTable : ℤ → ℤ → List ℤ → Table
 baseTable p n e = (bad-modulus, λ _. pOk p) ∷ shapeTable n e
 
 unfoldable pub baseNumber : ℤ → ℤ → List ℤ → ℕ
 baseNumber p n e = first (baseTable p n e)
 
+-- the words of the tower
 abbrev pub towerRow : ℤ → ℤ → List ℤ → List ℤ → ℕ × (Unit {0} → Bool)
 towerRow p n e t = (bad-tower, λ _. towerForm (num p) (degreesOf e) (num n) t)
 
+-- the tests of a tower
 abbrev pub towerTable : ℤ → ℤ → List ℤ → List ℤ → Table
 towerTable p n e t = baseTable p n e ++ (towerRow p n e t ∷ [])
 
@@ -55,12 +57,15 @@ checkTower p n e t = refusal (towerNumber p n e t)
 abbrev pub sizeOf : ℤ → List ℤ → ℕ
 sizeOf n e = size (degreesOf e) (num n)
 
+-- the length of a slot
 abbrev pub lengthRow : ℤ → List ℤ → List ℤ → ℕ × (Unit {0} → Bool)
 lengthRow n e a = (bad-length, λ _. slotLength (sizeOf n e) (length a))
 
+-- its form
 abbrev pub formRow : ℤ → ℤ → List ℤ → List ℤ → ℕ × (Unit {0} → Bool)
 formRow p n e a = (bad-form, λ _. slotForm (num p) (degreesOf e) (num n) (slotCount (sizeOf n e) (length a)) a)
 
+-- the tests of a tower and of a slot over it
 abbrev pub slotTable : ℤ → ℤ → List ℤ → List ℤ → List ℤ → Table
 slotTable p n e t a = towerTable p n e t ++ (lengthRow n e a ∷ formRow p n e a ∷ [])
 
@@ -78,15 +83,18 @@ pub record Sizes : Type 0 where
   pub inverse : ℕ
   pub gcd : ℕ
 
+-- the two degrees that the work sizes take
 abbrev pub degreesRow : ℤ → ℤ → ℕ × (Unit {0} → Bool)
 degreesRow a b = (bad-form, λ _. workDegree a && workDegree b)
 
+-- the tests of the work sizes
 abbrev pub workTable : ℤ → List ℤ → ℤ → ℤ → Table
 workTable n e a b = shapeTable n e ++ (degreesRow a b ∷ [])
 
 unfoldable pub workNumber : ℤ → List ℤ → ℤ → ℤ → ℕ
 workNumber n e a b = first (workTable n e a b)
 
+-- the sizes, or zeros beside a number
 abbrev pub sizesBy : ℕ → ℕ → ℕ → ℕ → Sizes
 sizesBy zero m i g = record { said = done; product = m; inverse = i; gcd = g }
 sizesBy (suc k) m i g = record { said = refused (suc k); product = 0; inverse = 0; gcd = 0 }
@@ -105,16 +113,19 @@ pub record Fraction : Type 0 where
 abbrev pub inverseOf : (p e : ℤ) → T (pOk p) → Answer ℕ (Residue (num p))
 inverseOf p e h = inverse₀ (num p) (p-positive p h) (toZ (num p) (p-positive p h) (num e))
 
+-- whether an inverse is given
 abbrev pub isGiven : {F A : Type 0} → Answer F A → Bool
 isGiven (done-with u) = true
 isGiven (shown f) = false
 isGiven long = false
 
+-- n times the inverse that is given, modulo p
 abbrev pub timesGiven : (p : ℕ) → ℤ → Answer ℕ (Residue p) → ℕ
 timesGiven p n (done-with u) = (modZ n p * u .0) % p
 timesGiven p n (shown h) = 0
 timesGiven p n long = 0
 
+-- the tests of a fraction
 abbrev pub fractionTable : ℤ → ℤ → Table
 fractionTable p e =
     (bad-modulus, λ _. pOk p)
@@ -125,9 +136,11 @@ fractionTable p e =
 unfoldable pub fractionNumber : ℤ → ℤ → ℕ
 fractionNumber p e = first (fractionTable p e)
 
+-- n times the inverse of e, modulo p
 unfoldable pub fractionResidue : ℤ → ℤ → ℤ → ℕ
 fractionResidue p n e = branch (pOk p) (λ h. timesGiven (num p) n (inverseOf p e h)) (λ _. 0)
 
+-- the residue, or 0 beside a number
 abbrev pub fractionBy : ℕ → ℕ → Fraction
 fractionBy zero r = record { said = done; residue = r }
 fractionBy (suc k) r = record { said = refused (suc k); residue = 0 }

@@ -8,6 +8,7 @@ use Rattle.kernel.specs.declared.Answer.the-variants.{Done, Factor, Refu
 use Rattle.kernel.specs.declared.FractionResidue.{FractionResidue}
 use Rattle.residue.specs.Number.{UnitOf, FactorOf}
 
+-- refused with a number, and the residue 0
 pub record NoFraction (k : ℕ) (r : FractionResidue) : Type 0 where
   pub answer : r .answer ≡ Refused k
   pub residue : r .residue ≡ 0
@@ -25,10 +26,12 @@ pub record Shared (e p : ℕ) (r : FractionResidue) : Type 0 where
   pub shared : FactorOf p (e % p) divisor
   pub none : NoFraction 10 r
 
+-- by the kind of the answer
 abbrev pub QuotientBy : Answer → ℤ → ℕ → ℕ → FractionResidue → Type 0
 QuotientBy Done n e p r = Divided n e p r
 QuotientBy (Factor l) n e p r = ⊥
 QuotientBy (Refused k) n e p r = Shared e p r
 
+-- what the quotient of n by e gives
 abbrev pub Quotient : ℤ → ℕ → ℕ → FractionResidue → Type 0
 Quotient n e p r = QuotientBy (r .answer) n e p r

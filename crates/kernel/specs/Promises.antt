@@ -2,6 +2,7 @@
 -- Lists that are lent to be read only cannot change, by their type.
 --
 -- TowerChecked, SlotChecked, SizesGiven, FractionGiven, SumGiven == the promises;  .. -determined == two results that a promise allows are equal
+-- in-order == the tests of each call stand in the order of their numbers
 use mathlib.Core.Path.{_≡_, sym, _∙_}
 use mathlib.Core.Bool.{Bool}
 use mathlib.Core.List.{List}
@@ -10,8 +11,10 @@ use Rattle.kernel.specs.declared.Answer.{Answer}
 use Rattle.kernel.specs.declared.WorkSizes.{WorkSizes}
 use Rattle.kernel.specs.declared.FractionResidue.{FractionResidue}
 use Rattle.kernel.specs.Answers.{said, said-inj}
-use Rattle.kernel.specs.Calls.{checkTower, checkSlot, workSizes, fraction}
-use Rattle.kernel.specs.Sums.{sum}
+use lib.Dec.{T}
+use Rattle.kernel.specs.Refusals.{ordered}
+use Rattle.kernel.specs.Calls.{towerTable, checkTower, slotTable, checkSlot, workTable, workSizes, fractionTable, fraction}
+use Rattle.kernel.specs.Sums.{sumTable, sum}
 
 pub record TowerChecked (p n : ℤ) (e t : List ℤ) (r : Answer) : Type 0 where
   pub answer : said r ≡ checkTower p n e t
@@ -56,3 +59,20 @@ pub record SumGiven (neg : Bool) (p n : ℤ) (e t a b : List ℤ) (r : Answer) (
 
 pub sum-determined : (neg : Bool) (p n : ℤ) (e t a b : List ℤ) (r s : Answer) (u v : List ℤ) → SumGiven neg p n e t a b r u → SumGiven neg p n e t a b s v → (r ≡ s) × (u ≡ v)
 sum-determined neg p n e t a b r s u v h k = (said-inj r s (h .answer ∙ sym (k .answer)), h .words ∙ sym (k .words))
+
+-- "Refusal numbers, tested in this order": so each call's tests stand
+pub record InOrder : Type 0 where
+  pub tower : (p n : ℤ) (e t : List ℤ) → T (ordered 1 (towerTable p n e t))
+  pub slot : (p n : ℤ) (e t a : List ℤ) → T (ordered 1 (slotTable p n e t a))
+  pub sizes : (n : ℤ) (e : List ℤ) (a b : ℤ) → T (ordered 1 (workTable n e a b))
+  pub fraction : (p e : ℤ) → T (ordered 1 (fractionTable p e))
+  pub sum : (p n : ℤ) (e t a b : List ℤ) → T (ordered 1 (sumTable p n e t a b))
+
+pub in-order : InOrder
+in-order = record {
+  tower = λ p n e t. tt;
+  slot = λ p n e t a. tt;
+  sizes = λ n e a b. tt;
+  fraction = λ p e. tt;
+  sum = λ p n e t a b. tt;
+}

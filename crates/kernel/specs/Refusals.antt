@@ -4,6 +4,7 @@
 -- Said, done, factor, refused == "Done, a shown factor with its level, and a refusal are three kinds of answer."
 -- Table, first                == rows of a number and a test; the first number whose test does not pass, 0 where all pass
 -- refusal, refusal-inj        == the answer that a number is, and that it tells the number
+-- ordered                     == the rows stand in the order of their numbers
 -- first-append                == two tables, one behind the other
 -- passed-of, first-of         == no number is given exactly where every test passes
 -- first-applies               == a number that is given is the first that applies, and comes only under its condition;  first-is == the first that applies is given
@@ -11,10 +12,10 @@ use Prim.Native.Nat.{ℕ, zero, suc, _≤_}
 use native.Mathlib.Nat.{not-suc-le-zero, lt-irrefl}
 use native.Mathlib.Omega.{arith}
 use mathlib.Core.Path.{_≡_, refl, ap, sym, _∙_}
-use mathlib.Core.Bool.{Bool, true, false, not}
+use mathlib.Core.Bool.{Bool, true, false, not, _&&_}
 use mathlib.Core.List.{List, [], _∷_, _++_}
 use mathlib.Core.Logic.{_⊎_, inl, inr}
-use lib.Dec.{T}
+use lib.Dec.{T, leb}
 
 pub data Said : Type 0 where
   done : Said
@@ -61,6 +62,11 @@ Table = List (ℕ × (Unit {0} → Bool))
 abbrev pub first : Table → ℕ
 first [] = 0
 first (row ∷ rows) = let rest : ℕ = first rows in unless (row .1 tt) (row .0) rest
+
+-- the numbers of the table do not fall
+abbrev pub ordered : ℕ → Table → Bool
+ordered k [] = true
+ordered k (row ∷ rows) = leb k (row .0) && ordered (row .0) rows
 
 -- no number is no refusal
 abbrev pub refusal : ℕ → Said

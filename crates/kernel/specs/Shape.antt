@@ -1,8 +1,8 @@
 -- The shape of a tower: its levels, degrees and sizes, as they go by value once numbers 1 and 2 have not been given.
 --
--- Known s        == the sizes are those of the degrees, and small
+-- Known s        == the sizes are those of the degrees, and the machine has room for them
 -- ShapeOf n e s  == s is the shape of N and four degrees that are in range
-use Prim.Native.Nat.{ℕ, _<_, _≤_}
+use Prim.Native.Nat.{ℕ, _^_, _<_, _≤_}
 use mathlib.Core.Path.{_≡_}
 use mathlib.Core.List.{List}
 use lib.IntN.{ℤ}
@@ -19,7 +19,7 @@ pub record Known (s : Shape) : Type 0 where
   pub small : Small (s .degrees)
   pub some : (k : ℕ) → k < s .levels → 1 ≤ degree (s .degrees) k
   pub is-size : s .size ≡ size (s .degrees) (s .levels)
-  pub few : s .size ≤ 2048
+  pub few : s .size < 2 ^ 40
 
 pub record ShapeOf (n : ℤ) (e : List ℤ) (s : Shape) : Type 0 where
   pub levels : s .levels ≡ num n

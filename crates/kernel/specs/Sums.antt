@@ -15,8 +15,7 @@ use Rattle.residue.specs.Word.{num}
 use Rattle.tower.specs.Form.{slotForm}
 use Rattle.tower.specs.Levels.{El, group}
 use Rattle.tower.specs.Limits.{pOk, p-positive, degreesOf, slotLength, slotCount}
-use Rattle.tower.specs.Lists.{countOf}
-use Rattle.tower.specs.Writing.{slot, unslot}
+use Rattle.tower.specs.Writing.{slot, unslot, countOf}
 use Rattle.arithmetic.specs.Sum.{slotGained}
 use Rattle.kernel.specs.Refusals.{Said, done, refused, bad-length, bad-form, small-answer, Table, first}
 use Rattle.kernel.specs.Calls.{sizeOf, towerTable}

@@ -14,8 +14,7 @@ use lib.IntN.{ℤ}
 use lib.Dec.{T, T-not, not-T, leb→le, le→leb}
 use Rattle.algebra.specs.Test.{branch, both, both-l, both-r}
 use Rattle.residue.specs.Word.{num}
-use Rattle.tower.specs.Writing.{size}
-use Rattle.tower.specs.Lists.{countOf}
+use Rattle.tower.specs.Writing.{size, countOf}
 use Rattle.tower.specs.Limits.{levelsOk, degreesOk, degreesOf, sizeOk, workDegree}
 use Rattle.tower.specs.Work.{productWork, inverseWork, gcdWork}
 use Rattle.kernel.specs.Refusals.{done, refusal, refusal-inj, Numbered, passed-of, first-of, Applies, first-applies, first-is}

@@ -1,8 +1,8 @@
 // The public calls. None has a `requires`: what a call cannot do it refuses, by the first number of document 01's table that applies. What each gives is in
 // specs/Calls.antt, and the promises cite it by name (specs/Promises.antt).
-pub mod fractions;
-pub mod numbers;
-pub mod sums;
+mod fractions;
+mod numbers;
+mod sums;
 
 ghost use Rattle.kernel.specs.Promises.{TowerChecked, SlotChecked, SizesGiven, FractionGiven, SumGiven};
 ghost use mathlib.Core.Bool.{true, false};
@@ -44,8 +44,8 @@ pub struct FractionResidue {
     pub residue: u64,
 }
 
-// What p, N and the degrees come to once they are in range: the levels, the four degrees, S_0 to S_4, and S_N.
-pub struct Shape {
+// What N and the degrees come to once they are in range: the levels, the four degrees, S_0 to S_4, and S_N.
+struct Shape {
     pub levels: usize,
     pub degrees: [usize; 4],
     pub sizes: [usize; 5],

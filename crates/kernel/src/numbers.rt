@@ -25,6 +25,7 @@ use tower::sizes::tower_size;
 use tower::words::as_p;
 use tower::words::nat;
 
+// The numbers by name, as specs/Refusals.antt has them.
 pub const BAD_MODULUS: usize = 1;
 
 pub const BAD_DEGREES: usize = 2;
@@ -50,7 +51,7 @@ pub fn answer(number: usize) -> Answer
 }
 
 // Number 2 or 0, of N and the degrees.
-pub fn shape(n: i64, e: [i64; 4]) -> usize
+pub fn shape_number(n: i64, e: [i64; 4]) -> usize
     ensures { λ r. ⌜ r ≡ shapeNumber n e ⌝ }
 {
     if !levels_ok(n) {
@@ -68,13 +69,13 @@ pub fn shape(n: i64, e: [i64; 4]) -> usize
 }
 
 // Number 1, 2 or 0, of p, N and the degrees.
-pub fn base(p: i64, n: i64, e: [i64; 4]) -> usize
+pub fn base_number(p: i64, n: i64, e: [i64; 4]) -> usize
     ensures { λ r. ⌜ r ≡ baseNumber p n e ⌝ }
 {
     if !p_ok(p) {
         return BAD_MODULUS;
     }
-    shape(n, e)
+    shape_number(n, e)
 }
 
 // The shape of a tower whose N and degrees are in range.
@@ -128,7 +129,7 @@ pub fn slot_ok(s: Shape, p: u64, a: &[i64]) -> bool
 pub fn tower_number(p: i64, n: i64, e: [i64; 4], t: &[i64]) -> usize
     ensures { λ r. ⌜ r ≡ towerNumber p n e (now (t .entry)) ⌝ }
 {
-    let number = base(p, n, e);
+    let number = base_number(p, n, e);
     if 0 < number {
         return number;
     }
@@ -160,7 +161,7 @@ pub fn slot_number(p: i64, n: i64, e: [i64; 4], t: &[i64], a: &[i64]) -> usize
 pub fn work_number(n: i64, e: [i64; 4], a: i64, b: i64) -> usize
     ensures { λ r. ⌜ r ≡ workNumber n e a b ⌝ }
 {
-    let number = shape(n, e);
+    let number = shape_number(n, e);
     if 0 < number {
         return number;
     }

@@ -17,9 +17,9 @@ use mir.ValLaws.{toZ-ofZ}
 use Rattle.algebra.specs.Test.{allTo}
 use Rattle.tower.specs.Form.{eqZ, residueOk, degreeOk}
 use Rattle.tower.specs.Heads.{bool-eq, placeOk, headOf}
-use Rattle.tower.specs.Lists.{eqZ-sound, eqZ-refl, countOf}
+use Rattle.tower.specs.Lists.{eqZ-sound, eqZ-refl}
 use Rattle.tower.specs.Ready.{Sized}
-use Rattle.tower.specs.Writing.{size, size-zero, size-suc}
+use Rattle.tower.specs.Writing.{size, size-zero, size-suc, countOf}
 use borrow.Author.Tests.{ltb-true, ltb-false, lt-leb, le-leb, eq-eqb, ne-eqb}
 
 pub and-false-l : (a b : Bool) → a ≡ false → false ≡ (a && b)
@@ -31,14 +31,6 @@ and-false-r false b h = refl
 
 pub and-true-l : (a b : Bool) → a ≡ true → b ≡ (a && b)
 and-true-l a b h = rw h refl
-
-pub of-not-true : (b : Bool) → not b ≡ true → b ≡ false
-of-not-true false h = refl
-of-not-true true h = sym h
-
-pub of-not-false : (b : Bool) → not b ≡ false → b ≡ true
-of-not-false true h = refl
-of-not-false false h = sym h
 
 pub leb-not : (k n : ℕ) → leb k n ≡ not (ltb n k)
 leb-not k n = bool-eq (leb k n) (not (ltb n k)) (λ h. not-T (ltb n k) (λ t. lt-irrefl n (omega (arith, leb→le k n h, ltb→lt n k t)))) back

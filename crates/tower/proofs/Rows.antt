@@ -14,8 +14,8 @@ use Rattle.algebra.specs.Test.{allTo}
 use Rattle.tower.proofs.Laws.{and-false-l, and-false-r, and-true-l, allTo-bad, allTo-more, row}
 use Rattle.tower.specs.Form.{eqZ, seg, zeroWords, residueOk, degreeOk, coefficientOk, formOver, inForm, inForm-zero, inForm-suc, slotForm}
 use Rattle.tower.specs.Heads.{headOf, placeOk, coefficient-head}
-use Rattle.tower.specs.Lists.{of-true, countOf, seg-long, seg-seg, seg-at}
-use Rattle.tower.specs.Writing.{size, size-zero, size-suc}
+use Rattle.tower.specs.Lists.{of-true, seg-long, seg-seg, seg-at}
+use Rattle.tower.specs.Writing.{size, size-zero, size-suc, countOf}
 
 pub allTo-same : (n : ℕ) (f g : ℕ → Bool) → ((k : ℕ) → k < n → f k ≡ g k) → allTo n f ≡ allTo n g
 allTo-same zero f g h = refl

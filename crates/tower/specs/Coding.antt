@@ -17,9 +17,9 @@ use lib.Seq.{take-at, drop-at, drop-drop, take-add, take-all}
 use Rattle.algebra.specs.Test.{ZeroTest, both, both-l, both-r, allTo-use, allTo-make, le-or-lt}
 use Rattle.algebra.specs.Vec.{Vec, coef, zeroᵛ, topped, topped-top, coef-below, coef-zero}
 use Rattle.algebra.specs.Shape.{Shape, null, lead, count, strip, Stripped, strip-ok, strip-null}
-use Rattle.tower.specs.Writing.{degreeWord, writes, reads, writes-long, degreeAnd, behindDegree}
+use Rattle.tower.specs.Writing.{degreeWord, writes, reads, writes-long, degreeAnd, behindDegree, countOf}
 use Rattle.tower.specs.Form.{eqZ, same, implies, copies, degreeOk, coefficientOk, formOver}
-use Rattle.tower.specs.Lists.{implies-use, implies-make, same-sound, same-eq, countOf, degree-is, degree-low, degree-make, at-degree, at-degree′, over-degree, over-degree′}
+use Rattle.tower.specs.Lists.{implies-use, implies-make, same-sound, same-eq, degree-is, degree-low, degree-make, at-degree, at-degree′, over-degree, over-degree′}
 use mathlib.Core.Logic.{_⊎_, inl, inr}
 
 -- A is kept in s words, its element o as z, and `good` tells which words hold an element

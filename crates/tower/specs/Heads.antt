@@ -1,4 +1,4 @@
--- Of words in form, the first word tells the zero, and i + 1 words tell the one: so a check need look at no word twice.
+-- Of words in form, the first word tells the zero, and i + 1 words tell the one: so a check is linear in the words.
 --
 -- headOf, zero-head       == the first word of the zero of level i, and that it tells the zero
 -- placeOk, coefficient-head == what the degree asks of the coefficient at k, by counts
@@ -17,9 +17,9 @@ use lib.ListN.{length, getD, take, drop, length-drop, take-append-drop}
 use lib.Seq.{drop-drop}
 use Rattle.algebra.specs.Test.{both-l, both-r, allTo-use}
 use Rattle.tower.specs.Levels.{degree}
-use Rattle.tower.specs.Writing.{size}
+use Rattle.tower.specs.Writing.{size, countOf}
 use Rattle.tower.specs.Form.{eqZ, same, implies, copies, zeroWords, degreeOk, coefficientOk, formOver, inForm, oneWords}
-use Rattle.tower.specs.Lists.{implies-use, eqZ-sound, same-sound, same-eq, countOf}
+use Rattle.tower.specs.Lists.{implies-use, eqZ-sound, same-sound, same-eq}
 
 pub bool-eq : (x y : Bool) → (T x → T y) → (T y → T x) → x ≡ y
 bool-eq true true f g = refl
@@ -84,10 +84,6 @@ at-count n k (negsuc m) h = sym (eqb·suc-zero k)
 over-count : (n k : ℕ) (g : ℤ) → T (degreeOk n g) → ltZ g (pos k) ≡ leb (countOf g) k
 over-count n k (pos m) h = refl
 over-count n k (negsuc m) h = sym (leb·zero k)
-
-false-of : (b : Bool) → (T b → ⊥) → b ≡ false
-false-of true h = absurd (h tt)
-false-of false h = refl
 
 -- a coefficient passes when it is in form and its first word is right for its place
 pub coefficient-head : (p : ℕ) (d : List ℕ) (i n k : ℕ) (g : ℤ) (b : List ℤ) → T (degreeOk n g) → coefficientOk (inForm p d i) (zeroWords d i) g k b ≡ (inForm p d i b && placeOk (countOf g) k (eqZ (getD b 0 (pos 0)) (headOf i)))

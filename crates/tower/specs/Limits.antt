@@ -1,5 +1,5 @@
--- Document 01's limits, as tests on numbers that nobody has looked at. They stand here and nowhere else: nothing below them knows 2,147,483,647, 2 to 64,
--- 2,048, 256 or 65,536.
+-- Document 01's limits, as tests on numbers that nobody has looked at. No theorem about levels, words or sums asks for one of them; the sizes' arithmetic
+-- asks for degrees of at most 64 and at most 256 coefficients, so that nothing overflows.
 --
 -- pOk                       == number 1;  p-two, p-positive, p-narrow == what it says of p
 -- levelsOk, degreesOk, sizeOk == number 2;  degreesOf == the four degrees as numbers

@@ -11,7 +11,7 @@ use lib.Dec.{T, eqb, eqb→eq, eqb-refl, ltb→lt, lt→ltb, leb, leb→le}
 use lib.ListN.{length, getD, take, drop, length-append, length-take, length-drop}
 use lib.Seq.{drop-drop, take-take, getD-take, getD-drop}
 use Rattle.algebra.specs.Test.{both, both-l, both-r}
-use Rattle.tower.specs.Writing.{degreeWord}
+use Rattle.tower.specs.Writing.{degreeWord, countOf}
 use Rattle.tower.specs.Form.{eqZ, same, implies, seg, copies, degreeOk}
 
 pub implies-use : (a b : Bool) → T (implies a b) → T a → T b
@@ -51,11 +51,6 @@ pub same-eq : {a b : List ℤ} → a ≡ b → T (same a b)
 same-eq {a} {b} e = subst (λ x. T (same a x)) e (same-refl a)
 
 -- ---- degree words
--- one more than a degree
-abbrev pub countOf : ℤ → ℕ
-countOf (pos m) = suc m
-countOf (negsuc m) = 0
-
 pub degree-is : (n : ℕ) (g : ℤ) → T (degreeOk n g) → degreeWord (countOf g) ≡ g
 degree-is n (pos m) h = refl
 degree-is n (negsuc zero) h = refl

@@ -18,9 +18,9 @@ use lib.ListN.{length, getD, length-append}
 use lib.Seq.{take-all}
 use Rattle.algebra.specs.Vec.{Vec}
 use Rattle.tower.specs.Levels.{degree, El, isZero, group, zero-test, Tower, ring, Ones}
-use Rattle.tower.specs.Writing.{size, size-zero, size-suc, degreeWord, write, read, write-suc, slot, slot-long, unslot}
+use Rattle.tower.specs.Writing.{size, size-zero, size-suc, degreeWord, write, read, write-suc, slot, slot-long, unslot, countOf}
 use Rattle.tower.specs.Form.{eqZ, same, seg, copies, zeroWords, oneWords, slotForm}
-use Rattle.tower.specs.Lists.{countOf, same-sound, same-eq, seg-at, copies-long}
+use Rattle.tower.specs.Lists.{same-sound, same-eq, seg-at, copies-long}
 use Rattle.tower.specs.Coding.{countᵛ, Counts, count-low, count-counts}
 use Rattle.tower.specs.Heads.{headOf, bool-eq, zero-head}
 use Rattle.tower.specs.Ready.{Positive}

@@ -53,6 +53,11 @@ abbrev pub degreeWord : ℕ → ℤ
 degreeWord zero = negsuc 0
 degreeWord (suc e) = pos e
 
+-- and back: the coefficients that a degree word counts, 0 for every negative one
+abbrev pub countOf : ℤ → ℕ
+countOf (pos m) = suc m
+countOf (negsuc m) = 0
+
 -- elements one after the other, lowest first
 unfoldable pub writes : {A : Type 0} → (A → List ℤ) → (k : ℕ) → Vec A k → List ℤ
 writes f zero v = []

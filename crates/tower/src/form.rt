@@ -1,4 +1,4 @@
-// The form of words: elements, slots and towers, each word looked at once.
+// The form of words: elements, slots and towers, in time linear in the words.
 ghost use mathlib.Core.Path.{_≡_};
 ghost use Prim.Native.Nat.{_+_, _*_, _^_, _<_};
 ghost use lib.IntN.{pos};

@@ -4,8 +4,8 @@ ghost use Prim.Native.Nat.{_<_};
 ghost use lib.IntN.{pos};
 ghost use lib.ListN.{length, getD};
 ghost use Rattle.residue.specs.Word.{num};
+ghost use Rattle.tower.specs.Writing.{countOf};
 ghost use Rattle.tower.specs.Form.{eqZ};
-ghost use Rattle.tower.specs.Lists.{countOf};
 
 // The word at a place.
 pub fn word_at(x: &[i64], a: usize) -> i64

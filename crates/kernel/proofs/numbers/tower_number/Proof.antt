@@ -12,18 +12,18 @@ use Rattle.kernel.proofs.numbers.tower_number.Statement.{statement}
 use Rattle.kernel.proofs.numbers.tower_number.Tie as tie
 use Rattle.kernel.proofs.numbers.tower_number.Reads as reads
 use Rattle.kernel.proofs.numbers.tower_number.Lts as lts
-use Rattle.kernel.proofs.numbers.base.Reads as base-reads
+use Rattle.kernel.proofs.numbers.base_number.Reads as base-number-reads
 use Rattle.kernel.proofs.numbers.shape_of.Reads as shape-of-reads
 use Rattle.kernel.proofs.numbers.tower_ok.Reads as tower-ok-reads
 use Rattle.tower.proofs.words.as_p.Reads as as-p-reads
 
-base-requires : tie.Need-base-requires
-base-requires c κs = search needs
+base-number-requires : tie.Need-base-number-requires
+base-number-requires c κs = search needs
 
 returns : tie.Need-returns
 returns c =
     let s = c .before .before in
-    let base = c .before .base in
+    let base = c .before .base-number in
     let if1 = c .if1 in
     tower-first _ _ (s .args .e) (s .args .t .now) (base .result) (base .ensures) (if1 .taken)
     ∙ of-words (λ x y. towerNumber x y (s .args .e) (s .args .t .now)) (s .fits .p) (s .fits .n)
@@ -31,7 +31,7 @@ returns c =
 shape-of-requires : tie.Need-shape-of-requires
 shape-of-requires c κs =
     let s = c .before .before in
-    let base = c .before .base in
+    let base = c .before .base-number in
     let if1 = c .if1 in
     shape-zero _ _ (s .args .e) (base .result) (base .ensures) (if1 .left)
 
@@ -44,7 +44,7 @@ tower-ok-requires c κs = search needs
 returns-2 : tie.Need-returns-2
 returns-2 c =
     let s = c .before .before .before .before .before .before in
-    let base = c .before .before .before .before .before .base in
+    let base = c .before .before .before .before .before .base-number in
     let if1 = c .before .before .before .before .if1 in
     let shape-of = c .before .before .before .shape-of in
     let as-p = c .before .before .as-p in
@@ -70,7 +70,7 @@ returns-2 c =
 returns-3 : tie.Need-returns-3
 returns-3 c =
     let s = c .before .before .before .before .before .before in
-    let base = c .before .before .before .before .before .base in
+    let base = c .before .before .before .before .before .base-number in
     let if1 = c .before .before .before .before .if1 in
     let shape-of = c .before .before .before .shape-of in
     let as-p = c .before .before .as-p in
@@ -97,7 +97,7 @@ pub tower-number-spec : {M : Type 1} → statement M
 tower-number-spec =
     tie.close
     (tie.spec
-    base-requires
+    base-number-requires
     returns
     shape-of-requires
     as-p-requires

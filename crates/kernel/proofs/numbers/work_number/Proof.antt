@@ -9,16 +9,16 @@ use Rattle.kernel.proofs.numbers.work_number.Statement.{statement}
 use Rattle.kernel.proofs.numbers.work_number.Tie as tie
 use Rattle.kernel.proofs.numbers.work_number.Reads as reads
 use Rattle.kernel.proofs.numbers.work_number.Lts as lts
-use Rattle.kernel.proofs.numbers.shape.Reads as shape-reads
+use Rattle.kernel.proofs.numbers.shape_number.Reads as shape-number-reads
 use Rattle.tower.proofs.limits.work_degree.Reads as work-degree-reads
 
-shape-requires : tie.Need-shape-requires
-shape-requires c κs = search needs
+shape-number-requires : tie.Need-shape-number-requires
+shape-number-requires c κs = search needs
 
 returns : tie.Need-returns
 returns c =
     let s = c .before .before in
-    let shape = c .before .shape in
+    let shape = c .before .shape-number in
     let if1 = c .if1 in
     work-first
     (s .args .n)
@@ -35,7 +35,7 @@ work-degree-requires c κs = search needs
 returns-2 : tie.Need-returns-2
 returns-2 c =
     let s = c .before .before .before .before in
-    let shape = c .before .before .before .shape in
+    let shape = c .before .before .before .shape-number in
     let if1 = c .before .before .if1 in
     let work-degree = c .before .work-degree in
     let if2 = c .if2 in
@@ -55,7 +55,7 @@ work-degree-requires-2 c κs = search needs
 returns-3 : tie.Need-returns-3
 returns-3 c =
     let s = c .before .before .before .before .before .before in
-    let shape = c .before .before .before .before .before .shape in
+    let shape = c .before .before .before .before .before .shape-number in
     let if1 = c .before .before .before .before .if1 in
     let work-degree2 = c .before .work-degree2 in
     let if3 = c .if3 in
@@ -72,7 +72,7 @@ returns-3 c =
 returns-4 : tie.Need-returns-4
 returns-4 c =
     let s = c .before .before .before .before .before .before in
-    let shape = c .before .before .before .before .before .shape in
+    let shape = c .before .before .before .before .before .shape-number in
     let if1 = c .before .before .before .before .if1 in
     let work-degree = c .before .before .before .work-degree in
     let if2 = c .before .before .if2 in
@@ -93,7 +93,7 @@ pub work-number-spec : {M : Type 1} → statement M
 work-number-spec =
     tie.close
     (tie.spec
-    shape-requires
+    shape-number-requires
     returns
     work-degree-requires
     returns-2

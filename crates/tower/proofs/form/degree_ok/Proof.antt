@@ -1,6 +1,6 @@
 use Rattle.tower.proofs.Laws.{degree-low, degree-high}
+use Rattle.tower.specs.Writing.{countOf}
 use Rattle.tower.specs.Form.{degreeOk}
-use Rattle.tower.specs.Lists.{countOf}
 use mir.ValLaws.{toZ-ofZ}
 use mir.Syntax.{w64}
 use mathlib.Core.Path.{ap, _∙_}

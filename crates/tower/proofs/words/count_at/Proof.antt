@@ -1,4 +1,4 @@
-use Rattle.tower.specs.Lists.{countOf}
+use Rattle.tower.specs.Writing.{countOf}
 use mir.ValLaws.{toZ-ofZ}
 use mir.Syntax.{w64}
 use mathlib.Core.Path.{ap, _∙_}

@@ -6,10 +6,10 @@ use borrow.Author.Tests.{not-true, not-false}
 use mathlib.Core.Path.{sym, _∙_}
 use native.Mathlib.Omega.{arith}
 use borrow.Author.Needs.{needs}
-use Rattle.kernel.proofs.numbers.shape.Statement.{statement}
-use Rattle.kernel.proofs.numbers.shape.Tie as tie
-use Rattle.kernel.proofs.numbers.shape.Reads as reads
-use Rattle.kernel.proofs.numbers.shape.Lts as lts
+use Rattle.kernel.proofs.numbers.shape_number.Statement.{statement}
+use Rattle.kernel.proofs.numbers.shape_number.Tie as tie
+use Rattle.kernel.proofs.numbers.shape_number.Reads as reads
+use Rattle.kernel.proofs.numbers.shape_number.Lts as lts
 use Rattle.tower.proofs.sizes.degrees.Reads as degrees-reads
 use Rattle.tower.proofs.limits.degrees_ok.Reads as degrees-ok-reads
 use Rattle.tower.proofs.limits.levels_ok.Reads as levels-ok-reads
@@ -119,8 +119,8 @@ returns-4 c =
     (size-at .ensures)
     (if3 .left)
 
-pub shape-spec : {M : Type 1} → statement M
-shape-spec =
+pub shape-number-spec : {M : Type 1} → statement M
+shape-number-spec =
     tie.close
     (tie.spec
     levels-ok-requires
