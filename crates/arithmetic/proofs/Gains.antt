@@ -14,10 +14,9 @@ use Rattle.algebra.specs.Test.{le-or-lt}
 use Rattle.algebra.specs.Vec.{Vec, coef}
 use Rattle.algebra.specs.Zmod.{Residue, zGroup}
 use Rattle.tower.specs.Levels.{degree, El, group}
-use Rattle.tower.specs.Writing.{size, size-zero, size-suc, write, write-zero, write-suc, write-long, writes, writes-long, slot, slot-long, countOf}
+use Rattle.tower.specs.Writing.{size, size-zero, size-suc, write, write-zero, write-suc, write-long, writes, writes-long, slot, slot-long, countOf, size-pos}
 use Rattle.tower.specs.Form.{seg}
 use Rattle.tower.specs.Lists.{seg-seg, seg-at}
-use Rattle.tower.proofs.Rows.{size-pos}
 use Rattle.tower.specs.Store.{Put, Kept, kept-refl, kept-trans, kept-wide, kept-join, kept-seg, put-kept, put-seg, put-set}
 use Rattle.tower.specs.Stands.{Stands, SlotStands, slot-of, degree-told, count-few}
 use Rattle.residue.specs.Number.{Operands}

@@ -14,12 +14,11 @@ use Rattle.kernel.specs.Refusals.{unless}
 use Rattle.kernel.specs.Shape.{Known, ShapeOf}
 use Rattle.residue.specs.Word.{num}
 use Rattle.tower.proofs.Lengths.{length-is}
-use Rattle.tower.proofs.Rows.{size-pos}
 use Rattle.tower.specs.Form.{seg, slotForm, towerForm}
 use Rattle.tower.specs.Levels.{degree}
 use Rattle.tower.specs.Limits.{pOk, degreesOf, slotLength, slotCount}
 use Rattle.tower.specs.Ready.{Sized, Small, Row}
-use Rattle.tower.specs.Writing.{size}
+use Rattle.tower.specs.Writing.{size, size-pos}
 
 module _ (n : ℤ) (e : List ℤ) (h : 0 ≡ shapeNumber n e) where
   pub shape-small : Small (degreesOf e)

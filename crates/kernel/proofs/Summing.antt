@@ -16,14 +16,13 @@ use Rattle.arithmetic.specs.Sum.{RowGained, RowTerms}
 use Rattle.algebra.specs.Test.{branch-yes}
 use Rattle.residue.specs.Word.{num}
 use Rattle.tower.proofs.Lengths.{length-is}
-use Rattle.tower.proofs.Rows.{size-pos}
 use Rattle.tower.specs.Form.{slotForm}
 use Rattle.tower.specs.Limits.{pOk, p-positive, p-narrow, degreesOf, slotLength, slotCount}
 use Rattle.tower.specs.Lists.{of-true, to-true}
 use Rattle.tower.specs.Ready.{Sized}
 use Rattle.tower.specs.Stands.{slot-stands}
 use Rattle.tower.specs.Store.{Put}
-use Rattle.tower.specs.Writing.{size, unslot, slot-long}
+use Rattle.tower.specs.Writing.{size, unslot, slot-long, size-pos}
 use mathlib.Core.Path.{_≡_, refl, sym, ap, _∙_, subst}
 use mathlib.Core.Bool.{Bool, true, false, _&&_}
 use mathlib.Core.List.{List, [], _∷_}

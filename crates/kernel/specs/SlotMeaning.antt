@@ -22,7 +22,7 @@ use Rattle.algebra.specs.Test.{both, both-l, both-r}
 use Rattle.algebra.specs.Vec.{Vec}
 use Rattle.residue.specs.Word.{num}
 use Rattle.tower.specs.Levels.{El}
-use Rattle.tower.specs.Writing.{size, size-zero, size-suc, slot, slot-long}
+use Rattle.tower.specs.Writing.{size, size-pos, slot, slot-long}
 use Rattle.tower.specs.Form.{slotForm}
 use Rattle.tower.specs.Limits.{p-positive, degreesOf, slotLength, slotCount}
 use Rattle.tower.specs.Unique.{Exactly, slot-iff, slot-form}
@@ -81,10 +81,6 @@ room-length s l h r =
 pub room-iff : (s l : ℕ) → 0 < s → T (slotLength s l) ↔ Room s l
 room-iff s l h = (length-room s l, room-length s l h)
 
-pub size-some : (d : List ℕ) (n : ℕ) → 0 < size d n
-size-some d zero = omega (arith, size-zero d)
-size-some d (suc n) = omega (arith, size-suc d n)
-
 -- ---- what each number says of a slot
 -- 0: over a tower, a length that is allowed, and the words of exactly one polynomial
 pub record SlotHeld (p n : ℤ) (e t a : List ℤ) : Type 0 where
@@ -130,7 +126,7 @@ module _ (p n : ℤ) (e t a : List ℤ) where
   slot-is = first-append (towerTable p n e t) rows (tower-numbered p n e t)
 
   length-iff : T (slotLength s (length a)) ↔ Room s (length a)
-  length-iff = room-iff s (length a) (size-some (degreesOf e) (num n))
+  length-iff = room-iff s (length a) (size-pos (degreesOf e) (num n))
 
   form-iff : TowerHeld p n e t → T form ↔ Exactly (slotOf p n e k) a
   form-iff τ = slot-iff (num p) (p-positive p (τ .range .modulus)) (degreesOf e) (num n) k a
@@ -191,7 +187,7 @@ module _ (p n : ℤ) (e t : List ℤ) (h : towerNumber p n e t ≡ 0) (k : ℕ) 
   slot-passes v =
       let τ = tower-says p n e t 0 h in
       let w = slotOf p n e k v in
-      let c = room-count (sizeOf n e) (length w) (size-some (degreesOf e) (num n)) (room-of v) in
+      let c = room-count (sizeOf n e) (length w) (size-pos (degreesOf e) (num n)) (room-of v) in
       let f = slot-form (num p) (p-positive p (τ .range .modulus)) (degreesOf e) (num n) k v in
       let held = form-iff p n e t w τ .0 (subst (λ j. T (slotForm (num p) (degreesOf e) (num n) j w)) (sym c) f) in
       slot-given p n e t w 0 (record { tower = τ; room = room-of v; held = held })

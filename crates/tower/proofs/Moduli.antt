@@ -13,12 +13,12 @@ use lib.Seq.{drop-drop, getD-drop}
 use borrow.Author.Tests.{eq-eqb}
 use Rattle.algebra.specs.Test.{allTo, both-l, both-r}
 use Rattle.tower.proofs.Laws.{and-false-l, and-false-r, and-true-l, allTo-bad, row, row64}
-use Rattle.tower.proofs.Rows.{allTo-same, size-pos}
+use Rattle.tower.proofs.Rows.{allTo-same}
 use Rattle.tower.specs.Form.{eqZ, same, seg, oneWords, inForm, modulusOver, modulusForm, towerForm, towerForm-suc}
 use Rattle.tower.specs.Heads.{oneHead, oneHead-zero, oneHead-suc, one-head}
 use Rattle.tower.specs.Lists.{of-true, seg-long, seg-seg, seg-at}
 use Rattle.tower.specs.Ready.{Small}
-use Rattle.tower.specs.Writing.{size, size-zero, size-suc, modulusSize, towerSize, towerSize-suc, countOf}
+use Rattle.tower.specs.Writing.{size, size-zero, size-suc, modulusSize, towerSize, towerSize-suc, countOf, size-pos}
 
 -- ---- the one
 module _ (x : List ℤ) (a : ℕ) where

@@ -70,10 +70,6 @@ module _ (p : ℕ) (d : List ℕ) (i n : ℕ) (x : List ℤ) (a : ℕ) (inside :
       next r q er hr eq hq passed = allTo-more k (coefficientAt p d i x a) passed (here ∙ ap₂ _&&_ (sym er ∙ hr) (head ∙ sym eq ∙ hq))
 
 -- ---- elements
-pub size-pos : (d : List ℕ) (i : ℕ) → 0 < size d i
-size-pos d zero = omega (arith, size-zero d)
-size-pos d (suc i) = omega (arith, size-suc d i)
-
 module _ (p : ℕ) (d : List ℕ) (x : List ℤ) (a : ℕ) where
   pub element-low : (i : ℕ) → i ≡ 0 → a + size d i ≤ length x → (r : Bool) → r ≡ residueOk p (getD x a (pos 0)) → r ≡ inForm p d i (seg a (size d i) x)
   element-low zero e h r q =

@@ -18,7 +18,7 @@ use lib.ListN.{length, getD, length-append}
 use lib.Seq.{take-all}
 use Rattle.algebra.specs.Vec.{Vec}
 use Rattle.tower.specs.Levels.{degree, El, isZero, group, zero-test, Tower, ring, Ones}
-use Rattle.tower.specs.Writing.{size, size-zero, size-suc, degreeWord, write, read, write-suc, slot, slot-long, unslot, countOf}
+use Rattle.tower.specs.Writing.{size, size-pos, size-zero, size-suc, degreeWord, write, read, write-suc, slot, slot-long, unslot, countOf}
 use Rattle.tower.specs.Form.{eqZ, same, seg, copies, zeroWords, oneWords, slotForm}
 use Rattle.tower.specs.Lists.{same-sound, same-eq, seg-at, copies-long}
 use Rattle.tower.specs.Coding.{countᵛ, Counts, count-low, count-counts}
@@ -35,10 +35,6 @@ abbrev pub SlotStands : (p : ℕ) (d : List ℕ) (i k : ℕ) → Vec (El p d i) 
 SlotStands p d i k v w a = seg a (k * size d i + 1) w ≡ slot p d i k v
 
 -- ---- lengths
-size-some : (d : List ℕ) (i : ℕ) → 0 < size d i
-size-some d zero = omega (arith, size-zero d)
-size-some d (suc i) = omega (arith, size-suc d i)
-
 pub zero-long : (d : List ℕ) (i : ℕ) → length (zeroWords d i) ≡ size d i
 unfolding zeroWords
 zero-long d zero = sym (size-zero d)
@@ -82,7 +78,7 @@ module _ (p : ℕ) (p-pos : 0 < p) (d : List ℕ) where
     -- the test of the first word is the ring's test for zero
     pub zero-told : (x : El p d i) → Stands p d i x w a → eqZ (getD w a (pos 0)) (headOf i) ≡ isZero p d i x
     zero-told x s =
-        ap (λ g. eqZ g (headOf i)) (first-word a (size d i) w (write p d i x) (size-some d i) s)
+        ap (λ g. eqZ g (headOf i)) (first-word a (size d i) w (write p d i x) (size-pos d i) s)
         ∙ sym (zero-head p d i (write p d i x) (laws p p-pos d i .good-write x))
         ∙ same-zero i x
 

@@ -35,6 +35,10 @@ pub size-suc : (d : List ℕ) (n : ℕ) → size d (suc n) ≡ degree d n * size
 unfolding size
 size-suc d n = refl
 
+pub size-pos : (d : List ℕ) (n : ℕ) → 0 < size d n
+size-pos d zero = omega (arith, size-zero d)
+size-pos d (suc n) = omega (arith, size-suc d n)
+
 -- m_(n+1) has S_(n+1) + S_n words
 abbrev pub modulusSize : List ℕ → ℕ → ℕ
 modulusSize d n = size d (suc n) + size d n

@@ -1,3 +1,4 @@
+use Rattle.tower.specs.Writing.{size-pos}
 use mir.Syntax.{w64}
 use mir.Val.{toZ, ofZ}
 use Rattle.kernel.proofs.Order.{slot-first}
@@ -5,7 +6,6 @@ use Rattle.kernel.proofs.Shapes.{tower-zero, slot-unfit, slot-answered}
 use Rattle.kernel.proofs.Told.{of-words}
 use Rattle.kernel.specs.Calls.{slotNumber}
 use Rattle.kernel.specs.Refusals.{unless}
-use Rattle.tower.proofs.Rows.{size-pos}
 use borrow.Author.Tests.{not-true, not-false}
 use native.Mathlib.Omega.{arith}
 use mathlib.Core.Path.{refl, sym, ap, _∙_}

@@ -1,7 +1,7 @@
 use Rattle.algebra.specs.Test.{allTo}
 use Rattle.tower.proofs.Laws.{row as row-fits}
-use Rattle.tower.proofs.Rows.{coefficientAt, bad-degree, finish, bad-element, bad-place, next, size-pos, element-low, element-up, size-down}
-use Rattle.tower.specs.Writing.{size}
+use Rattle.tower.proofs.Rows.{coefficientAt, bad-degree, finish, bad-element, bad-place, next, element-low, element-up, size-down}
+use Rattle.tower.specs.Writing.{size, size-pos}
 use borrow.Author.Tests.{not-true, not-false}
 use lib.ListN.{getD}
 use mathlib.Core.Bool.{true}

@@ -1,9 +1,8 @@
 use Rattle.algebra.specs.Test.{allTo}
 use Rattle.tower.proofs.Laws.{row as row-fits, allTo-more}
 use Rattle.tower.proofs.Moduli.{elementAt, modulus-size, Left, left-all, left-none, tower-over, inside, bad-degree, bad-element, bad-one, next, under}
-use Rattle.tower.proofs.Rows.{size-pos}
 use Rattle.tower.specs.Form.{seg, inForm}
-use Rattle.tower.specs.Writing.{size}
+use Rattle.tower.specs.Writing.{size, size-pos}
 use borrow.Author.Tests.{not-true, not-false}
 use lib.ListN.{getD}
 use mathlib.Core.Bool.{true}

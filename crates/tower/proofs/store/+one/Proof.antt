@@ -1,6 +1,6 @@
 -- `store::one` meets its contract. The measure is the level.
+use Rattle.tower.specs.Writing.{size-pos}
 use Rattle.tower.proofs.Puts.{first-fits, rest-fit, one-low, one-up}
-use Rattle.tower.proofs.Rows.{size-pos}
 use mathlib.Core.Path.{refl, _∙_}
 use native.Mathlib.Omega.{arith}
 use Prim.Native.Nat.{ℕ, _-_, _<_}

@@ -1,10 +1,9 @@
 -- `store::zero` and `store::zeros` meet their contracts. The level falls round their cycle; the loop has written k zeros.
 use Rattle.tower.proofs.Puts.{next-copy, each-fits, all-fit, zero-low, zero-up}
-use Rattle.tower.proofs.Rows.{size-pos}
 use Rattle.tower.specs.Form.{copies, zeroWords}
 use Rattle.tower.specs.Stands.{zero-long}
 use Rattle.tower.specs.Store.{Put, put-nil}
-use Rattle.tower.specs.Writing.{size}
+use Rattle.tower.specs.Writing.{size, size-pos}
 use mathlib.Core.Path.{_≡_, refl, ap, _∙_}
 use native.Mathlib.Omega.{arith}
 use Prim.Native.Nat.{ℕ, _+_, _-_, _*_, _<_, _≤_}
