@@ -1,7 +1,8 @@
 -- Laws of the calls: from the numbers to what is known after them.
 use Rattle.kernel.proofs.Range.{small-of, levels-low}
-use Rattle.kernel.specs.Calls.{sizeOf, towerRow, lengthRow, formRow, shapeTable, baseTable, towerTable, shapeNumber, baseNumber, towerNumber, slotNumber}
+use Rattle.kernel.specs.Calls.{sizeOf, towerRow, shapeTable, baseTable, shapeNumber, baseNumber, towerNumber, slotNumber}
 use Rattle.kernel.specs.Refusals.{refused, refusal, Numbered, first-append, unless, andThen}
+use Rattle.kernel.specs.SlotMeaning.{slot-is}
 use Rattle.residue.specs.Word.{num}
 use Rattle.tower.specs.Form.{seg, towerForm, slotForm}
 use Rattle.tower.specs.Limits.{pOk, degreesOf, levelsOk, degreesOk, slotCount, slotLength}
@@ -26,9 +27,6 @@ shape-numbered n e = (omega arith, (omega arith, (omega arith, tt)))
 pub base-numbered : (p n : ℤ) (e : List ℤ) → Numbered (baseTable p n e)
 base-numbered p n e = (omega arith, shape-numbered n e)
 
-pub tower-numbered : (p n : ℤ) (e t : List ℤ) → Numbered (towerTable p n e t)
-tower-numbered p n e t = (omega arith, (omega arith, (omega arith, (omega arith, (omega arith, tt)))))
-
 pub base-is : (p n : ℤ) (e : List ℤ) → baseNumber p n e ≡ unless (pOk p) 1 (shapeNumber n e)
 unfolding baseNumber shapeNumber
 base-is p n e = refl
@@ -36,13 +34,6 @@ base-is p n e = refl
 pub tower-is : (p n : ℤ) (e t : List ℤ) → towerNumber p n e t ≡ andThen (baseNumber p n e) (unless (towerForm (num p) (degreesOf e) (num n) t) 3 0)
 unfolding towerNumber baseNumber
 tower-is p n e t = first-append (baseTable p n e) (towerRow p n e t ∷ []) (base-numbered p n e)
-
-pub slot-is : (p n : ℤ) (e t a : List ℤ) → slotNumber p n e t a
-    ≡ andThen
-    (towerNumber p n e t)
-    (unless (slotLength (sizeOf n e) (length a)) 4 (unless (slotForm (num p) (degreesOf e) (num n) (slotCount (sizeOf n e) (length a)) a) 5 0))
-unfolding slotNumber towerNumber
-slot-is p n e t a = first-append (towerTable p n e t) (lengthRow n e a ∷ formRow p n e a ∷ []) (tower-numbered p n e t)
 
 -- what passed when no number came out
 pub record Passed (n : ℤ) (e : List ℤ) : Type 0 where

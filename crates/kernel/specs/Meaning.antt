@@ -15,7 +15,7 @@ use mathlib.Core.List.{List}
 use native.Mathlib.Nat.{lt-irrefl}
 use native.Mathlib.Omega.{arith}
 use lib.IntN.{ℤ, pos}
-use lib.Dec.{T, T-not, not-T, ltb, leb, leb→le, le→leb, lt→ltb}
+use lib.Dec.{T, T-not, not-T, ltb, leb, leb→le, lt→ltb}
 use lib.ListN.{getD}
 use Rattle.algebra.specs.Test.{branch, both-l, both-r, allTo-use}
 use Rattle.residue.specs.Word.{num}
@@ -23,7 +23,7 @@ use Rattle.tower.specs.Levels.{Tower, Ones}
 use Rattle.tower.specs.Writing.{size, towerWords}
 use Rattle.tower.specs.Form.{towerForm}
 use Rattle.tower.specs.Lists.{to-true}
-use Rattle.tower.specs.Limits.{pOk, p-two, p-positive, levelsOk, degreeIn, degreesOk, degreesOf, sizeOk}
+use Rattle.tower.specs.Limits.{pOk, p-two, p-positive, levelsOk, degreeIn, degreesOk, degreesOf, sizeOk, size-few, few-size}
 use Rattle.tower.specs.Unique.{Exactly}
 use Rattle.tower.specs.TowerUnique.{tower-iff, tower-good}
 use Rattle.kernel.specs.Refusals.{refusal, refusal-inj, Numbered, passed-of, first-of, Applies, first-applies, first-is}
@@ -99,12 +99,6 @@ module _ (p n : ℤ) (e t : List ℤ) where
   pub tower-numbered : Numbered (towerTable p n e t)
   tower-numbered = (omega arith, (omega arith, (omega arith, (omega arith, (omega arith, tt)))))
 
-  size-test : T (sizeOk (degreesOf e) (num n)) → size (degreesOf e) (num n) ≤ 2048
-  size-test h = leb→le (size (degreesOf e) (num n)) 2048 h
-
-  test-size : size (degreesOf e) (num n) ≤ 2048 → T (sizeOk (degreesOf e) (num n))
-  test-size h = le→leb (size (degreesOf e) (num n)) 2048 h
-
   no-tower : (r : InRange p n e) → T (not (towerForm (num p) (degreesOf e) (num n) t)) → (τ : TowerOf p n e) → ¬ (wordsOf p n e (r .modulus) τ ≡ t)
   no-tower r h τ q = T-not (towerForm (num p) (degreesOf e) (num n) t) h (subst (λ w. T (towerForm (num p) (degreesOf e) (num n) w)) q (form-words p n e r τ))
 
@@ -113,9 +107,9 @@ module _ (p n : ℤ) (e t : List ℤ) where
   applied k (inr (a, inl h)) = subst (TowerMeans p n e t) (h .1) (record { modulus = a; out = λ r. T-not (levelsOk n) (h .0) (r .levels) })
   applied k (inr (a, inr (b, inl h))) = subst (TowerMeans p n e t) (h .1) (record { modulus = a; out = λ r. T-not (degreesOk (num n) e) (h .0) (r .degrees) })
   applied k (inr (a, inr (b, inr (c, inl h)))) =
-      subst (TowerMeans p n e t) (h .1) (record { modulus = a; out = λ r. T-not (sizeOk (degreesOf e) (num n)) (h .0) (test-size (r .few)) })
+      subst (TowerMeans p n e t) (h .1) (record { modulus = a; out = λ r. T-not (sizeOk (degreesOf e) (num n)) (h .0) (few-size (degreesOf e) (num n) (r .few)) })
   applied k (inr (a, inr (b, inr (c, inr (d, inl h))))) =
-      let r : InRange p n e = record { modulus = a; levels = b; degrees = c; few = size-test d } in
+      let r : InRange p n e = record { modulus = a; levels = b; degrees = c; few = size-few (degreesOf e) (num n) d } in
       subst (TowerMeans p n e t) (h .1) (record { range = r; none = no-tower r (h .0) })
   applied k (inr (a, inr (b, inr (c, inr (d, inr (f, none)))))) = absurd none
 
@@ -124,7 +118,7 @@ module _ (p n : ℤ) (e t : List ℤ) where
   unfolding towerNumber
   tower-says zero h =
       let a = passed-of (towerTable p n e t) tower-numbered h in
-      let r : InRange p n e = record { modulus = a .0; levels = a .1 .0; degrees = a .1 .1 .0; few = size-test (a .1 .1 .1 .0) } in
+      let r : InRange p n e = record { modulus = a .0; levels = a .1 .0; degrees = a .1 .1 .0; few = size-few (degreesOf e) (num n) (a .1 .1 .1 .0) } in
       record { range = r; held = form-held p n e r t .0 (a .1 .1 .1 .1 .0) }
   tower-says (suc k) h = applied (suc k) (first-applies (towerTable p n e t) k h)
 
@@ -134,7 +128,7 @@ module _ (p n : ℤ) (e t : List ℤ) where
       branch (levelsOk n)
       (λ a. branch (degreesOk (num n) e)
       (λ b. branch (sizeOk (degreesOf e) (num n))
-      (λ c. absurd (h .out (record { modulus = h .modulus; levels = a; degrees = b; few = size-test c })))
+      (λ c. absurd (h .out (record { modulus = h .modulus; levels = a; degrees = b; few = size-few (degreesOf e) (num n) c })))
       (λ c. inr (h .modulus, inr (a, inr (b, inl (c, refl))))))
       (λ b. inr (h .modulus, inr (a, inl (b, refl)))))
       (λ a. inr (h .modulus, inl (a, refl)))
@@ -144,13 +138,13 @@ module _ (p n : ℤ) (e t : List ℤ) where
   unfolding towerNumber
   tower-given zero h =
       let r = h .range in
-      first-of (towerTable p n e t) (r .modulus, (r .levels, (r .degrees, (test-size (r .few), (form-held p n e r t .1 (h .held), tt)))))
+      first-of (towerTable p n e t) (r .modulus, (r .levels, (r .degrees, (few-size (degreesOf e) (num n) (r .few), (form-held p n e r t .1 (h .held), tt)))))
   tower-given (suc zero) h = first-is (towerTable p n e t) 1 (inl (h, refl))
   tower-given (suc (suc zero)) h = first-is (towerTable p n e t) 2 (out-of h)
   tower-given (suc (suc (suc zero))) h =
       let r = h .range in
       let bad = not-T (towerForm (num p) (degreesOf e) (num n) t) (λ f. (let x = form-held p n e r t .0 f in h .none (x .this) (x .holds))) in
-      first-is (towerTable p n e t) 3 (inr (r .modulus, inr (r .levels, inr (r .degrees, inr (test-size (r .few), inl (bad, refl))))))
+      first-is (towerTable p n e t) 3 (inr (r .modulus, inr (r .levels, inr (r .degrees, inr (few-size (degreesOf e) (num n) (r .few), inl (bad, refl))))))
 
   -- the same of what the call says
   pub tower-answers : (k : ℕ) → (checkTower p n e t ≡ refusal k) ↔ TowerMeans p n e t k

@@ -22,7 +22,7 @@ use Rattle.algebra.specs.Test.{both, both-l, both-r}
 use Rattle.algebra.specs.Vec.{Vec}
 use Rattle.residue.specs.Word.{num}
 use Rattle.tower.specs.Levels.{El}
-use Rattle.tower.specs.Writing.{size, size-pos, slot, slot-long}
+use Rattle.tower.specs.Writing.{size-pos, slot, slot-long}
 use Rattle.tower.specs.Form.{slotForm}
 use Rattle.tower.specs.Limits.{p-positive, degreesOf, slotLength, slotCount}
 use Rattle.tower.specs.Unique.{Exactly, slot-iff, slot-form}
@@ -109,7 +109,7 @@ SlotMeans p n e t a (suc (suc (suc (suc (suc zero))))) = NoPolynomial p n e t a
 SlotMeans p n e t a (suc (suc (suc (suc (suc (suc k)))))) = ⊥
 
 module _ (p n : ℤ) (e t a : List ℤ) where
-  abbrev rows : Table
+  abbrev pub rows : Table
   rows = lengthRow n e a ∷ formRow p n e a ∷ []
 
   abbrev s : ℕ
@@ -121,7 +121,7 @@ module _ (p n : ℤ) (e t a : List ℤ) where
   abbrev form : Bool
   form = slotForm (num p) (degreesOf e) (num n) k a
 
-  slot-is : slotNumber p n e t a ≡ andThen (towerNumber p n e t) (first rows)
+  pub slot-is : slotNumber p n e t a ≡ andThen (towerNumber p n e t) (first rows)
   unfolding slotNumber towerNumber
   slot-is = first-append (towerTable p n e t) rows (tower-numbered p n e t)
 

@@ -11,11 +11,11 @@ use mathlib.Core.Logic.{_↔_, inl, inr}
 use mathlib.Core.List.{List}
 use native.Mathlib.Omega.{arith}
 use lib.IntN.{ℤ}
-use lib.Dec.{T, T-not, not-T, leb→le, le→leb}
+use lib.Dec.{T, T-not, not-T}
 use Rattle.algebra.specs.Test.{branch, both, both-l, both-r}
 use Rattle.residue.specs.Word.{num}
 use Rattle.tower.specs.Writing.{size, countOf}
-use Rattle.tower.specs.Limits.{levelsOk, degreesOk, degreesOf, sizeOk, workDegree}
+use Rattle.tower.specs.Limits.{levelsOk, degreesOk, degreesOf, sizeOk, size-few, few-size, workDegree}
 use Rattle.tower.specs.Work.{productWork, inverseWork, gcdWork}
 use Rattle.kernel.specs.Refusals.{done, refusal, refusal-inj, Numbered, passed-of, first-of, Applies, first-applies, first-is}
 use Rattle.kernel.specs.Calls.{Sizes, workTable, workNumber, sizesBy, workSizes}
@@ -50,19 +50,13 @@ module _ (n : ℤ) (e : List ℤ) (a b : ℤ) where
   numbered : Numbered (workTable n e a b)
   numbered = (omega arith, (omega arith, (omega arith, (omega arith, tt))))
 
-  size-test : T (sizeOk (degreesOf e) (num n)) → size (degreesOf e) (num n) ≤ 2048
-  size-test h = leb→le (size (degreesOf e) (num n)) 2048 h
-
-  test-size : size (degreesOf e) (num n) ≤ 2048 → T (sizeOk (degreesOf e) (num n))
-  test-size h = le→leb (size (degreesOf e) (num n)) 2048 h
-
   applied : (k : ℕ) → Applies (workTable n e a b) k → WorkMeans n e a b k
   applied k (inl h) = subst (WorkMeans n e a b) (h .1) (λ r. T-not (levelsOk n) (h .0) (r .levels))
   applied k (inr (x, inl h)) = subst (WorkMeans n e a b) (h .1) (λ r. T-not (degreesOk (num n) e) (h .0) (r .degrees))
-  applied k (inr (x, inr (y, inl h))) = subst (WorkMeans n e a b) (h .1) (λ r. T-not (sizeOk (degreesOf e) (num n)) (h .0) (test-size (r .few)))
+  applied k (inr (x, inr (y, inl h))) = subst (WorkMeans n e a b) (h .1) (λ r. T-not (sizeOk (degreesOf e) (num n)) (h .0) (few-size (degreesOf e) (num n) (r .few)))
   applied k (inr (x, inr (y, inr (z, inl h)))) =
       subst (WorkMeans n e a b) (h .1) (record {
-        range = record { levels = x; degrees = y; few = size-test z };
+        range = record { levels = x; degrees = y; few = size-few (degreesOf e) (num n) z };
         out = λ i j. T-not (workDegree a && workDegree b) (h .0) (both (workDegree a) (workDegree b) i j);
       })
   applied k (inr (x, inr (y, inr (z, inr (w, none))))) = absurd none
@@ -72,7 +66,7 @@ module _ (n : ℤ) (e : List ℤ) (a b : ℤ) where
   work-says zero h =
       let x = passed-of (workTable n e a b) numbered h in
       record {
-        range = record { levels = x .0; degrees = x .1 .0; few = size-test (x .1 .1 .0) };
+        range = record { levels = x .0; degrees = x .1 .0; few = size-few (degreesOf e) (num n) (x .1 .1 .0) };
         a-in = both-l (workDegree a) (workDegree b) (x .1 .1 .1 .0);
         b-in = both-r (workDegree a) (workDegree b) (x .1 .1 .1 .0);
       }
@@ -83,7 +77,7 @@ module _ (n : ℤ) (e : List ℤ) (a b : ℤ) where
   out-of h =
       branch (levelsOk n)
       (λ x. branch (degreesOk (num n) e)
-      (λ y. branch (sizeOk (degreesOf e) (num n)) (λ z. absurd (h (record { levels = x; degrees = y; few = size-test z }))) (λ z. inr (x, inr (y, inl (z, refl)))))
+      (λ y. branch (sizeOk (degreesOf e) (num n)) (λ z. absurd (h (record { levels = x; degrees = y; few = size-few (degreesOf e) (num n) z }))) (λ z. inr (x, inr (y, inl (z, refl)))))
       (λ y. inr (x, inl (y, refl))))
       (λ x. inl (x, refl))
 
@@ -91,12 +85,12 @@ module _ (n : ℤ) (e : List ℤ) (a b : ℤ) where
   unfolding workNumber
   work-given zero h =
       let r = h .range in
-      first-of (workTable n e a b) (r .levels, (r .degrees, (test-size (r .few), (both (workDegree a) (workDegree b) (h .a-in) (h .b-in), tt))))
+      first-of (workTable n e a b) (r .levels, (r .degrees, (few-size (degreesOf e) (num n) (r .few), (both (workDegree a) (workDegree b) (h .a-in) (h .b-in), tt))))
   work-given (suc (suc zero)) h = first-is (workTable n e a b) 2 (out-of h)
   work-given (suc (suc (suc (suc (suc zero))))) h =
       let r = h .range in
       let bad = not-T (workDegree a && workDegree b) (λ t. h .out (both-l (workDegree a) (workDegree b) t) (both-r (workDegree a) (workDegree b) t)) in
-      first-is (workTable n e a b) 5 (inr (r .levels, inr (r .degrees, inr (test-size (r .few), inl (bad, refl)))))
+      first-is (workTable n e a b) 5 (inr (r .levels, inr (r .degrees, inr (few-size (degreesOf e) (num n) (r .few), inl (bad, refl)))))
 
   -- ---- what the call says and gives
   said-is : (k m i g : ℕ) → sizesBy k m i g .said ≡ refusal k

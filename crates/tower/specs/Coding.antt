@@ -19,7 +19,7 @@ use Rattle.algebra.specs.Vec.{Vec, coef, zeroᵛ, topped, topped-top, coef-belo
 use Rattle.algebra.specs.Shape.{Shape, null, lead, count, strip, Stripped, strip-ok, strip-null}
 use Rattle.tower.specs.Writing.{degreeWord, writes, reads, writes-long, degreeAnd, behindDegree, countOf}
 use Rattle.tower.specs.Form.{eqZ, same, implies, copies, degreeOk, coefficientOk, formOver}
-use Rattle.tower.specs.Lists.{implies-use, implies-make, same-sound, same-eq, degree-is, degree-low, degree-make, at-degree, at-degree′, over-degree, over-degree′}
+use Rattle.tower.specs.Lists.{implies-use, implies-make, same-sound, same-eq, degree-is, degree-low, degree-make, at-degree, at-degree′, over-degree, over-degree′, append-nil}
 use mathlib.Core.Logic.{_⊎_, inl, inr}
 
 -- A is kept in s words, its element o as z, and `good` tells which words hold an element
@@ -145,10 +145,6 @@ module _ {A : Type 0} {o : A} {zero? : A → Bool} (Z : ZeroTest o zero?) (s : �
   module _ (n : ℕ) where
     pub long-up : (v : Vec A n) → length (write-up n v) ≡ n * s + 1
     long-up v = omega (arith, writes-long (C .write) s (C .long) n v)
-
-    append-nil : (l : List ℤ) → l ++ [] ≡ l
-    append-nil [] = refl
-    append-nil (x ∷ l) = ap (λ t. x ∷ t) (append-nil l)
 
     pub read-write-up : (v : Vec A n) → read-up n (write-up n v) ≡ v
     read-write-up v = ap (reads (C .read) s n) (sym (append-nil (writes (C .write) n v))) ∙ reads-writes n v []

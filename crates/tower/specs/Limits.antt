@@ -2,7 +2,7 @@
 -- asks for degrees of at most 64 and at most 256 coefficients, so that nothing overflows.
 --
 -- pOk                       == number 1;  p-two, p-positive, p-narrow == what it says of p
--- levelsOk, degreesOk, sizeOk == number 2;  degreesOf == the four degrees as numbers
+-- levelsOk, degreesOk, sizeOk == number 2;  size-few, few-size == what sizeOk says;  degreesOf == the four degrees as numbers
 -- slotLength, slotCount     == number 4 for a slot, and its coefficients
 -- workDegree                == number 5 for the work sizes
 use Prim.Native.Nat.{ℕ, _-_, _/_, _%_, _^_, _<_, _≤_}
@@ -11,7 +11,7 @@ use mathlib.Core.Bool.{Bool, true, false, _&&_}
 use mathlib.Core.List.{List, [], _∷_}
 use lib.IntN.{ℤ, pos, negsuc}
 use lib.Signed.{leZ}
-use lib.Dec.{T, ltb, leb, leb→le, eqb}
+use lib.Dec.{T, ltb, leb, leb→le, le→leb, eqb}
 use lib.ListN.{getD}
 use Rattle.algebra.specs.Test.{allTo, both-l, both-r}
 use Rattle.tower.specs.Writing.{size}
@@ -50,6 +50,12 @@ degreesOf e = num (getD e 0 (pos 0)) ∷ num (getD e 1 (pos 0)) ∷ num (getD e 
 -- "S_N is at most 2,048"
 abbrev pub sizeOk : List ℕ → ℕ → Bool
 sizeOk d n = leb (size d n) 2048
+
+pub size-few : (d : List ℕ) (n : ℕ) → T (sizeOk d n) → size d n ≤ 2048
+size-few d n h = leb→le (size d n) 2048 h
+
+pub few-size : (d : List ℕ) (n : ℕ) → size d n ≤ 2048 → T (sizeOk d n)
+few-size d n h = le→leb (size d n) 2048 h
 
 -- "A polynomial slot of k coefficients has 1 + k·S_N words, k from 1 to 256, at most 65,536 words": the k of l words, s words a coefficient
 abbrev pub slotCount : ℕ → ℕ → ℕ

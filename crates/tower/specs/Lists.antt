@@ -2,7 +2,7 @@
 use Prim.Native.Nat.{ℕ, zero, suc, _+_, _*_, _<_, _≤_}
 use mathlib.Core.Path.{_≡_, refl, sym, ap, _∙_, subst}
 use mathlib.Core.Bool.{Bool, true, false}
-use mathlib.Core.List.{List, [], _∷_}
+use mathlib.Core.List.{List, [], _∷_, _++_}
 use native.Mathlib.Nat.{suc-mul, zero-mul, lt-irrefl, not-suc-le-zero}
 use native.Mathlib.Omega.{arith}
 use lib.IntN.{ℤ, pos, negsuc}
@@ -96,6 +96,10 @@ seg-seg a n b m w h = take-drop b m n (drop a w) h ∙ ap (take m) (drop-drop b 
 
 pub seg-at : (a n j : ℕ) (w : List ℤ) → j < n → getD (seg a n w) j (pos 0) ≡ getD w (a + j) (pos 0)
 seg-at a n j w h = getD-take n (drop a w) j (pos 0) h ∙ getD-drop a w j (pos 0)
+
+pub append-nil : (l : List ℤ) → l ++ [] ≡ l
+append-nil [] = refl
+append-nil (x ∷ l) = ap (λ t. x ∷ t) (append-nil l)
 
 pub copies-long : (n s : ℕ) (l : List ℤ) → length l ≡ s → length (copies n l) ≡ n * s
 copies-long zero s l h = sym (zero-mul s)

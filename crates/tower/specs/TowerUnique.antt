@@ -22,7 +22,7 @@ use Rattle.algebra.specs.Quotient.{one-is}
 use Rattle.tower.specs.Levels.{degree, El, isZero, Tower, ring, zero-test, Ones, fewer, one-not-zero}
 use Rattle.tower.specs.Writing.{size, size-suc, modulusSize, writes, reads, writes-long, degreeAnd, behindDegree, write, read, unslot, towerWords, towerOf}
 use Rattle.tower.specs.Form.{eqZ, same, copies, zeroWords, inForm, oneWords, modulusOver, modulusForm, towerForm}
-use Rattle.tower.specs.Lists.{eqZ-sound, same-sound, same-eq}
+use Rattle.tower.specs.Lists.{eqZ-sound, same-sound, same-eq, append-nil}
 use Rattle.tower.specs.Coding.{Coding, Counts, count-unique, reads-writes, block-writes, writes-zero, writes-front}
 use Rattle.tower.specs.Unique.{Exactly, coding}
 
