@@ -41,14 +41,8 @@ returns-2 c =
     let if1 = c .before .before .if1 in
     let if2 = c .before .if2 in
     let no-fraction2 = c .no-fraction2 in
-    fraction-e
-    (s .args .p)
-    (s .args .n)
-    (s .args .e)
-    (no-fraction2 .result)
-    (told pOk (s .fits .p) (p-ok .ensures) (not-false _ (if1 .left)))
-    (e-told (s .fits .e) true (if2 .taken))
-    (no-fraction2 .ensures)
+    fraction-e (s .args .p) (s .args .n) (s .args .e) (no-fraction2 .result) (told pOk (s .fits .p) (p-ok .ensures) (not-false _ (if1 .left)))
+    (e-told (s .fits .e) true (if2 .taken)) (no-fraction2 .ensures)
 
 number-requires : tie.Need-number-requires
 number-requires c κs = search needs
@@ -73,13 +67,8 @@ returns-3 c =
     let number = c .before .before .number in
     let as-p = c .before .as-p in
     let quotient = c .quotient in
-    fraction-found
-    (s .args .p)
-    (s .args .n)
-    (s .args .e)
-    (of-true _ (told pOk (s .fits .p) (p-ok .ensures) (not-false _ (if1 .left))))
-    (e-told (s .fits .e) false (if2 .left))
-    (quotient .result)
+    fraction-found (s .args .p) (s .args .n) (s .args .e) (of-true _ (told pOk (s .fits .p) (p-ok .ensures) (not-false _ (if1 .left))))
+    (e-told (s .fits .e) false (if2 .left)) (quotient .result)
     (quotient-plain (quotient .result) (s .fits .n) (number .ensures ∙ of-word num (s .fits .e)) (as-p .ensures ∙ of-word num (s .fits .p)) (quotient .ensures))
 
 pub residue-of-fraction-spec : {M : Type 1} → statement M

@@ -74,36 +74,13 @@ returns-2 c =
     let n = s .args .n in
     let is = shape-of .ensures in
     let inv = inverse-work .ensures .0 ∙ ap₂ inverseWork (is .degrees) (is .levels) in
-    sizes-plain
-    (s .args .e)
-    _
-    (s .fits .n)
-    (s .fits .a)
-    (s .fits .b)
+    sizes-plain (s .args .e) _ (s .fits .n) (s .fits .a) (s .fits .b)
     (sizes-given
-    _
-    (s .args .e)
-    _
-    _
-    (work-number .result)
-    (work-number .ensures)
-    (if1 .left)
-    (product-work .result)
-    (inverse-work .result)
-    (gcd-work .result)
-    (product-work .ensures ∙ ap₂ productWork (is .degrees) (is .levels))
-    inv
+    _ (s .args .e) _ _ (work-number .result) (work-number .ensures) (if1 .left) (product-work .result) (inverse-work .result) (gcd-work .result)
+    (product-work .ensures ∙ ap₂ productWork (is .degrees) (is .levels)) inv
     (gcd-is
-    _
-    _
-    (count .result)
-    (count2 .result)
-    (shape-of .result .size)
-    (inverse-work .result)
-    (gcd-work .result)
-    (size-found (pos 0) _ (s .args .e) (shape-of .result) is _ refl)
-    inv
-    (gcd-work .ensures)
+    _ _ (count .result) (count2 .result) (shape-of .result .size) (inverse-work .result) (gcd-work .result)
+    (size-found (pos 0) _ (s .args .e) (shape-of .result) is _ refl) inv (gcd-work .ensures)
     ∙ ap₂ (gcdWork _ _) (count .ensures) (count2 .ensures)))
 
 pub work-sizes-spec : {M : Type 1} → statement M

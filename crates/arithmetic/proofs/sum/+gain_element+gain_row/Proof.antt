@@ -81,17 +81,7 @@ gain-element-same-length t c =
     let s = c .before .before .before .before in
     let if1 = c .before .before .before .if1 in
     let gain-word = c .before .gain-word in
-    gained-long
-    (s .args .p)
-    (s .args .d)
-    (s .args .z)
-    (s .args .i)
-    (s .args .neg)
-    (s .args .x .now)
-    (s .args .a)
-    (s .args .at)
-    (s .args .w .now)
-    _
+    gained-long (s .args .p) (s .args .d) (s .args .z) (s .args .i) (s .args .neg) (s .args .x .now) (s .args .a) (s .args .at) (s .args .w .now) _
     (s .pre .1)
     (word-up (s .args .p) (s .args .d) (s .args .i) (s .args .neg) (s .args .x .now) (s .args .a) (s .args .at) (s .args .w .now) _ (if1 .taken) (gain-word .ensures))
 
@@ -142,32 +132,11 @@ gain-element-same-length-2 t c =
     let if1 = c .before .before .before .before .if1 in
     let degree-at = c .before .before .before .degree-at in
     let gain-row = c .before .gain-row in
-    row-long
-    (s .args .p)
-    (s .args .d)
-    (s .args .z)
-    (s .args .i - 1)
-    (degree-at .result)
-    (s .args .neg)
-    (s .args .x .now)
-    (s .args .a)
-    (s .args .at)
-    (s .args .w .now)
-    _
+    row-long (s .args .p) (s .args .d) (s .args .z) (s .args .i - 1) (degree-at .result) (s .args .neg) (s .args .x .now) (s .args .a) (s .args .at)
+    (s .args .w .now) _
     (terms-up
-    (s .args .p)
-    (s .args .d)
-    (s .args .z)
-    (s .args .i)
-    (s .args .i - 1)
-    (degree-at .result)
-    (s .args .neg)
-    (s .args .x .now)
-    (s .args .a)
-    (s .args .at)
-    (s .args .w .now)
-    (omega (arith, if1 .left))
-    (degree-at .ensures)
+    (s .args .p) (s .args .d) (s .args .z) (s .args .i) (s .args .i - 1) (degree-at .result) (s .args .neg) (s .args .x .now) (s .args .a)
+    (s .args .at) (s .args .w .now) (omega (arith, if1 .left)) (degree-at .ensures)
     (s .pre .1))
     (gain-row .ensures)
 
@@ -177,22 +146,8 @@ gain-element-returns-2 t c =
     let if1 = c .before .before .before .before .if1 in
     let degree-at = c .before .before .before .degree-at in
     let gain-row = c .before .gain-row in
-    gained-up
-    (s .args .p)
-    (s .args .d)
-    (s .args .z)
-    (s .args .i)
-    (s .args .i - 1)
-    (degree-at .result)
-    (s .args .neg)
-    (s .args .x .now)
-    (s .args .a)
-    (s .args .at)
-    (s .args .w .now)
-    (omega (arith, if1 .left))
-    (degree-at .ensures)
-    _
-    (gain-row .ensures)
+    gained-up (s .args .p) (s .args .d) (s .args .z) (s .args .i) (s .args .i - 1) (degree-at .result) (s .args .neg) (s .args .x .now) (s .args .a)
+    (s .args .at) (s .args .w .now) (omega (arith, if1 .left)) (degree-at .ensures) _ (gain-row .ensures)
 
 abbrev gain-row-Inv-loop : gain-row-lts.InvT-loop
 gain-row-Inv-loop i n neg p d z x a w₀ at c s k₀ w k = (k ≤ c) × Gaining p d i n neg x a w₀ at k w
@@ -365,23 +320,8 @@ gain-row-settle-requires t c κs =
     let size-at = c .before .before .before .size-at in
     let loop = c .before .before .loop in
     let es : size-at .result ≡ size (s .args .d) (s .args .i) = size-at .ensures ∙ s .pre .1 .sized .at (s .args .i) (s .pre .1 .low) in
-    gaining-settles
-    (s .args .p)
-    (s .args .d)
-    (s .args .z)
-    (s .args .i)
-    (s .args .n)
-    (s .args .neg)
-    (s .args .x .now)
-    (s .args .a)
-    (s .args .w .now)
-    (s .args .at)
-    (s .pre .1)
-    (loop .k)
-    (loop .w)
-    (loop .inv .1)
-    (size-at .result)
-    es
+    gaining-settles (s .args .p) (s .args .d) (s .args .z) (s .args .i) (s .args .n) (s .args .neg) (s .args .x .now) (s .args .a) (s .args .w .now)
+    (s .args .at) (s .pre .1) (loop .k) (loop .w) (loop .inv .1) (size-at .result) es
 
 gain-row-same-length : (t : ℕ) → gain-row-lts.Need-same-length (cs-gain-row t) (gain-row-at t) gain-row.Post gain-row-Inv-loop gain-row-μ-loop
 gain-row-same-length t c =
@@ -392,38 +332,11 @@ gain-row-same-length t c =
     let loop-test = c .before .before .before .loop-test in
     let settle = c .before .settle in
     let es : size-at .result ≡ size (s .args .d) (s .args .i) = size-at .ensures ∙ s .pre .1 .sized .at (s .args .i) (s .pre .1 .low) in
-    row-long
-    (s .args .p)
-    (s .args .d)
-    (s .args .z)
-    (s .args .i)
-    (s .args .n)
-    (s .args .neg)
-    (s .args .x .now)
-    (s .args .a)
-    (s .args .at)
-    (s .args .w .now)
-    _
-    (s .pre .1)
+    row-long (s .args .p) (s .args .d) (s .args .z) (s .args .i) (s .args .n) (s .args .neg) (s .args .x .now) (s .args .a) (s .args .at)
+    (s .args .w .now) _ (s .pre .1)
     (gaining-end
-    (s .args .p)
-    (s .args .d)
-    (s .args .z)
-    (s .args .i)
-    (s .args .n)
-    (s .args .neg)
-    (s .args .x .now)
-    (s .args .a)
-    (s .args .w .now)
-    (s .args .at)
-    (s .pre .1)
-    (loop .k)
-    (loop .w)
-    (loop .inv .1)
-    (omega (arith, loop-test .left, loop .inv .0, count-at .ensures))
-    (size-at .result)
-    es
-    _
+    (s .args .p) (s .args .d) (s .args .z) (s .args .i) (s .args .n) (s .args .neg) (s .args .x .now) (s .args .a) (s .args .w .now) (s .args .at)
+    (s .pre .1) (loop .k) (loop .w) (loop .inv .1) (omega (arith, loop-test .left, loop .inv .0, count-at .ensures)) (size-at .result) es _
     (settle .ensures))
 
 gain-row-returns : (t : ℕ) → gain-row-lts.Need-returns (cs-gain-row t) (gain-row-at t) gain-row.Post gain-row-Inv-loop gain-row-μ-loop
@@ -435,26 +348,9 @@ gain-row-returns t c =
     let loop-test = c .before .before .before .loop-test in
     let settle = c .before .settle in
     let es : size-at .result ≡ size (s .args .d) (s .args .i) = size-at .ensures ∙ s .pre .1 .sized .at (s .args .i) (s .pre .1 .low) in
-    gaining-end
-    (s .args .p)
-    (s .args .d)
-    (s .args .z)
-    (s .args .i)
-    (s .args .n)
-    (s .args .neg)
-    (s .args .x .now)
-    (s .args .a)
-    (s .args .w .now)
-    (s .args .at)
-    (s .pre .1)
-    (loop .k)
-    (loop .w)
-    (loop .inv .1)
-    (omega (arith, loop-test .left, loop .inv .0, count-at .ensures))
-    (size-at .result)
-    es
-    _
-    (settle .ensures)
+    gaining-end (s .args .p) (s .args .d) (s .args .z) (s .args .i) (s .args .n) (s .args .neg) (s .args .x .now) (s .args .a) (s .args .w .now)
+    (s .args .at) (s .pre .1) (loop .k) (loop .w) (loop .inv .1) (omega (arith, loop-test .left, loop .inv .0, count-at .ensures)) (size-at .result)
+    es _ (settle .ensures)
 
 pub +gain-element+gain-row-spec : {M : Type 1} → statement M
 +gain-element+gain-row-spec = close μ-gain-element μ-gain-row (λ t. gain-element-lts.spec

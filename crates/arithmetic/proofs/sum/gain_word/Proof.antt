@@ -42,17 +42,8 @@ returns c =
     let get-residue2 = c .before .before .before .before .get-residue2 in
     let gain = c .before .before .gain in
     let put = c .before .put in
-    word-gained
-    (s .pre)
-    (s .args .neg)
-    (get-residue .result)
-    (get-residue2 .result)
-    (gain .result)
-    (put .last .0)
-    (get-residue .ensures)
-    (get-residue2 .ensures)
-    (gain .ensures .value)
-    (put .ensures)
+    word-gained (s .pre) (s .args .neg) (get-residue .result) (get-residue2 .result) (gain .result) (put .last .0) (get-residue .ensures)
+    (get-residue2 .ensures) (gain .ensures .value) (put .ensures)
 
 pub gain-word-spec : {M : Type 1} → statement M
 gain-word-spec =

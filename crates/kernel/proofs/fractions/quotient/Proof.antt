@@ -63,14 +63,8 @@ returns-2 c =
     let inverse = c .before .before .before .inverse in
     let told = c .before .enum-told in
     let no-fraction = c .no-fraction in
-    shared-of
-    (s .args .n)
-    (s .args .e)
-    (s .args .p)
-    _
-    (no-fraction .result)
-    (factor-of (s .args .p) _ _ (inverse .result) (told .given .1) (inverse .ensures))
-    (no-fraction .ensures)
+    shared-of (s .args .n) (s .args .e) (s .args .p) _ (no-fraction .result)
+    (factor-of (s .args .p) _ _ (inverse .result) (told .given .1) (inverse .ensures)) (no-fraction .ensures)
 
 pub quotient-spec : {M : Type 1} → statement M
 quotient-spec =

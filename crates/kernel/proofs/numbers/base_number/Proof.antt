@@ -31,12 +31,7 @@ returns-2 c =
     let p-ok = c .before .before .p-ok in
     let if1 = c .before .if1 in
     let shape = c .shape-number in
-    base-shape
-    (s .args .n)
-    (s .args .e)
-    (s .args .p)
-    (shape .result)
-    (told pOk (s .fits .p) (p-ok .ensures) (not-false _ (if1 .left)))
+    base-shape (s .args .n) (s .args .e) (s .args .p) (shape .result) (told pOk (s .fits .p) (p-ok .ensures) (not-false _ (if1 .left)))
     (shape .ensures ∙ of-word (λ x. shapeNumber x (s .args .e)) (s .fits .n))
 
 pub base-number-spec : {M : Type 1} → statement M

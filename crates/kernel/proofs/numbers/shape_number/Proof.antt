@@ -41,13 +41,8 @@ returns-2 c =
     let nat = c .before .before .nat in
     let degrees-ok = c .before .degrees-ok in
     let if2 = c .if2 in
-    shape-degrees
-    (s .args .n)
-    (s .args .e)
-    (nat .result)
-    (nat .ensures ∙ of-word num (s .fits .n))
-    (told levelsOk (s .fits .n) (levels-ok .ensures) (not-false _ (if1 .left)))
-    (sym (degrees-ok .ensures) ∙ not-true _ (if2 .taken))
+    shape-degrees (s .args .n) (s .args .e) (nat .result) (nat .ensures ∙ of-word num (s .fits .n))
+    (told levelsOk (s .fits .n) (levels-ok .ensures) (not-false _ (if1 .left))) (sym (degrees-ok .ensures) ∙ not-true _ (if2 .taken))
 
 degrees-requires : tie.Need-degrees-requires
 degrees-requires c κs = search needs
@@ -81,18 +76,9 @@ returns-3 c =
     let sizes = c .before .before .sizes in
     let size-at = c .before .size-at in
     let if3 = c .if3 in
-    shape-fine
-    (s .args .n)
-    (s .args .e)
-    (nat .result)
-    (sizes .result)
-    (size-at .result)
-    (nat .ensures ∙ of-word num (s .fits .n))
-    (told levelsOk (s .fits .n) (levels-ok .ensures) (not-false _ (if1 .left)))
-    (sym (degrees-ok .ensures) ∙ not-false _ (if2 .left))
-    (rw (degrees .ensures) at (sizes .ensures))
-    (size-at .ensures)
-    (if3 .taken)
+    shape-fine (s .args .n) (s .args .e) (nat .result) (sizes .result) (size-at .result) (nat .ensures ∙ of-word num (s .fits .n))
+    (told levelsOk (s .fits .n) (levels-ok .ensures) (not-false _ (if1 .left))) (sym (degrees-ok .ensures) ∙ not-false _ (if2 .left))
+    (rw (degrees .ensures) at (sizes .ensures)) (size-at .ensures) (if3 .taken)
 
 returns-4 : tie.Need-returns-4
 returns-4 c =
@@ -106,18 +92,9 @@ returns-4 c =
     let sizes = c .before .before .sizes in
     let size-at = c .before .size-at in
     let if3 = c .if3 in
-    shape-big
-    (s .args .n)
-    (s .args .e)
-    (nat .result)
-    (sizes .result)
-    (size-at .result)
-    (nat .ensures ∙ of-word num (s .fits .n))
-    (told levelsOk (s .fits .n) (levels-ok .ensures) (not-false _ (if1 .left)))
-    (sym (degrees-ok .ensures) ∙ not-false _ (if2 .left))
-    (rw (degrees .ensures) at (sizes .ensures))
-    (size-at .ensures)
-    (if3 .left)
+    shape-big (s .args .n) (s .args .e) (nat .result) (sizes .result) (size-at .result) (nat .ensures ∙ of-word num (s .fits .n))
+    (told levelsOk (s .fits .n) (levels-ok .ensures) (not-false _ (if1 .left))) (sym (degrees-ok .ensures) ∙ not-false _ (if2 .left))
+    (rw (degrees .ensures) at (sizes .ensures)) (size-at .ensures) (if3 .left)
 
 pub shape-number-spec : {M : Type 1} → statement M
 shape-number-spec =

@@ -35,18 +35,8 @@ returns c =
     let degrees = c .before .before .degrees in
     let sizes = c .before .sizes in
     let size-at = c .size-at in
-    shape-made
-    (s .args .n)
-    (s .args .e)
-    (s .pre)
-    (nat .result)
-    (degrees .result)
-    (sizes .result)
-    (size-at .result)
-    (nat .ensures ∙ of-word num (s .fits .n))
-    (degrees .ensures)
-    (sizes .ensures)
-    (size-at .ensures)
+    shape-made (s .args .n) (s .args .e) (s .pre) (nat .result) (degrees .result) (sizes .result) (size-at .result)
+    (nat .ensures ∙ of-word num (s .fits .n)) (degrees .ensures) (sizes .ensures) (size-at .ensures)
 
 pub shape-of-spec : {M : Type 1} → statement M
 shape-of-spec =

@@ -22,9 +22,7 @@ row-requires : tie.Need-row-requires
 row-requires c κs =
     let s = c .before .before .before in
     let coefficients = c .coefficients in
-    subst
-    (λ k. Row (s .args .s .levels) k (s .args .s .degrees) (s .args .s .sizes) (s .args .a .now) 0)
-    (sym (coefficients .ensures))
+    subst (λ k. Row (s .args .s .levels) k (s .args .s .degrees) (s .args .s .sizes) (s .args .a .now) 0) (sym (coefficients .ensures))
     (slot-row (s .args .s) (s .args .a .now) (s .pre .0) (s .pre .1))
 
 returns : tie.Need-returns

@@ -51,20 +51,8 @@ returns-2 c =
     let tower-ok = c .before .tower-ok in
     let if2 = c .if2 in
     ap (λ b. unless b 3 0) (sym (not-true (tower-ok .result) (if2 .taken)))
-    ∙ tower-answered
-    (toZ w64 (ofZ w64 (s .args .p)))
-    _
-    (s .args .e)
-    (shape-of .result)
-    (shape-of .ensures)
-    (as-p .result)
-    (as-p .ensures)
-    (s .args .t .now)
-    (base .result)
-    (base .ensures)
-    (if1 .left)
-    (tower-ok .result)
-    (tower-ok .ensures)
+    ∙ tower-answered (toZ w64 (ofZ w64 (s .args .p))) _ (s .args .e) (shape-of .result) (shape-of .ensures) (as-p .result) (as-p .ensures)
+    (s .args .t .now) (base .result) (base .ensures) (if1 .left) (tower-ok .result) (tower-ok .ensures)
     ∙ of-words (λ x y. towerNumber x y (s .args .e) (s .args .t .now)) (s .fits .p) (s .fits .n)
 
 returns-3 : tie.Need-returns-3
@@ -77,20 +65,8 @@ returns-3 c =
     let tower-ok = c .before .tower-ok in
     let if2 = c .if2 in
     ap (λ b. unless b 3 0) (sym (not-false (tower-ok .result) (if2 .left)))
-    ∙ tower-answered
-    (toZ w64 (ofZ w64 (s .args .p)))
-    _
-    (s .args .e)
-    (shape-of .result)
-    (shape-of .ensures)
-    (as-p .result)
-    (as-p .ensures)
-    (s .args .t .now)
-    (base .result)
-    (base .ensures)
-    (if1 .left)
-    (tower-ok .result)
-    (tower-ok .ensures)
+    ∙ tower-answered (toZ w64 (ofZ w64 (s .args .p))) _ (s .args .e) (shape-of .result) (shape-of .ensures) (as-p .result) (as-p .ensures)
+    (s .args .t .now) (base .result) (base .ensures) (if1 .left) (tower-ok .result) (tower-ok .ensures)
     ∙ of-words (λ x y. towerNumber x y (s .args .e) (s .args .t .now)) (s .fits .p) (s .fits .n)
 
 pub tower-number-spec : {M : Type 1} → statement M

@@ -20,14 +20,8 @@ returns c =
     let s = c .before .before in
     let shape = c .before .shape-number in
     let if1 = c .if1 in
-    work-first
-    (s .args .n)
-    (s .args .e)
-    (s .args .a)
-    (s .args .b)
-    (shape .result)
-    (shape .ensures ∙ of-word (λ x. shapeNumber x (s .args .e)) (s .fits .n))
-    (if1 .taken)
+    work-first (s .args .n) (s .args .e) (s .args .a) (s .args .b) (shape .result)
+    (shape .ensures ∙ of-word (λ x. shapeNumber x (s .args .e)) (s .fits .n)) (if1 .taken)
 
 work-degree-requires : tie.Need-work-degree-requires
 work-degree-requires c κs = search needs
@@ -39,14 +33,8 @@ returns-2 c =
     let if1 = c .before .before .if1 in
     let work-degree = c .before .work-degree in
     let if2 = c .if2 in
-    work-bad-a
-    (s .args .n)
-    (s .args .e)
-    (s .args .a)
-    (s .args .b)
-    (shape .result)
-    (shape .ensures ∙ of-word (λ x. shapeNumber x (s .args .e)) (s .fits .n))
-    (if1 .left)
+    work-bad-a (s .args .n) (s .args .e) (s .args .a) (s .args .b) (shape .result)
+    (shape .ensures ∙ of-word (λ x. shapeNumber x (s .args .e)) (s .fits .n)) (if1 .left)
     (told workDegree (s .fits .a) (work-degree .ensures) (not-true _ (if2 .taken)))
 
 work-degree-requires-2 : tie.Need-work-degree-requires-2
@@ -59,14 +47,8 @@ returns-3 c =
     let if1 = c .before .before .before .before .if1 in
     let work-degree2 = c .before .work-degree2 in
     let if3 = c .if3 in
-    work-bad-b
-    (s .args .n)
-    (s .args .e)
-    (s .args .a)
-    (s .args .b)
-    (shape .result)
-    (shape .ensures ∙ of-word (λ x. shapeNumber x (s .args .e)) (s .fits .n))
-    (if1 .left)
+    work-bad-b (s .args .n) (s .args .e) (s .args .a) (s .args .b) (shape .result)
+    (shape .ensures ∙ of-word (λ x. shapeNumber x (s .args .e)) (s .fits .n)) (if1 .left)
     (told workDegree (s .fits .b) (work-degree2 .ensures) (not-true _ (if3 .taken)))
 
 returns-4 : tie.Need-returns-4
@@ -78,14 +60,8 @@ returns-4 c =
     let if2 = c .before .before .if2 in
     let work-degree2 = c .before .work-degree2 in
     let if3 = c .if3 in
-    work-fine
-    (s .args .n)
-    (s .args .e)
-    (s .args .a)
-    (s .args .b)
-    (shape .result)
-    (shape .ensures ∙ of-word (λ x. shapeNumber x (s .args .e)) (s .fits .n))
-    (if1 .left)
+    work-fine (s .args .n) (s .args .e) (s .args .a) (s .args .b) (shape .result)
+    (shape .ensures ∙ of-word (λ x. shapeNumber x (s .args .e)) (s .fits .n)) (if1 .left)
     (told workDegree (s .fits .a) (work-degree .ensures) (not-false _ (if2 .left)))
     (told workDegree (s .fits .b) (work-degree2 .ensures) (not-false _ (if3 .left)))
 

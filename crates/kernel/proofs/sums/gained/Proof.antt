@@ -24,26 +24,10 @@ returns c =
     let s = c .before .before .before in
     let sum-number = c .before .sum-number in
     let if1 = c .if1 in
-    sum-plain
-    (s .args .neg)
-    (s .args .e)
-    (s .args .t .now)
-    (s .args .a .now)
-    (s .args .b .now)
-    _
-    _
-    (s .fits .p)
-    (s .fits .n)
+    sum-plain (s .args .neg) (s .args .e) (s .args .t .now) (s .args .a .now) (s .args .b .now) _ _ (s .fits .p) (s .fits .n)
     (sum-refused
-    (s .args .neg)
-    (toZ w64 (ofZ w64 (s .args .p)))
-    (toZ w64 (ofZ w64 (s .args .n)))
-    (s .args .e)
-    (s .args .t .now)
-    (s .args .a .now)
-    (s .args .b .now)
-    (sum-number .result)
-    (sum-number .ensures)
+    (s .args .neg) (toZ w64 (ofZ w64 (s .args .p))) (toZ w64 (ofZ w64 (s .args .n))) (s .args .e) (s .args .t .now) (s .args .a .now)
+    (s .args .b .now) (sum-number .result) (sum-number .ensures)
     (if1 .taken))
 
 shape-of-requires : tie.Need-shape-of-requires
@@ -51,16 +35,8 @@ shape-of-requires c κs =
     let s = c .before .before .before in
     let sum-number = c .before .sum-number in
     let if1 = c .if1 in
-    passed-by
-    (toZ w64 (ofZ w64 (s .args .p)))
-    (toZ w64 (ofZ w64 (s .args .n)))
-    (s .args .e)
-    (s .args .t .now)
-    (s .args .a .now)
-    (s .args .b .now)
-    (sum-number .result)
-    (sum-number .ensures)
-    (if1 .left) .shape
+    passed-by (toZ w64 (ofZ w64 (s .args .p))) (toZ w64 (ofZ w64 (s .args .n))) (s .args .e) (s .args .t .now) (s .args .a .now) (s .args .b .now)
+    (sum-number .result) (sum-number .ensures) (if1 .left) .shape
 
 coefficients-requires : tie.Need-coefficients-requires
 coefficients-requires c κs =
@@ -92,22 +68,9 @@ gain-row-requires c κs =
     let shape-of = c .before .before .before .before .before .shape-of in
     let coefficients = c .before .before .coefficients in
     let as-p = c .before .as-p in
-    call-terms
-    (toZ w64 (ofZ w64 (s .args .p)))
-    (toZ w64 (ofZ w64 (s .args .n)))
-    (s .args .e)
-    (s .args .t .now)
-    (s .args .a .now)
-    (s .args .b .now)
-    (sum-number .result)
-    (sum-number .ensures)
-    (if1 .left)
-    (shape-of .result)
-    (shape-of .ensures)
-    (as-p .result)
-    (as-p .ensures)
-    (coefficients .result)
-    (coefficients .ensures)
+    call-terms (toZ w64 (ofZ w64 (s .args .p))) (toZ w64 (ofZ w64 (s .args .n))) (s .args .e) (s .args .t .now) (s .args .a .now) (s .args .b .now)
+    (sum-number .result) (sum-number .ensures) (if1 .left) (shape-of .result) (shape-of .ensures) (as-p .result) (as-p .ensures)
+    (coefficients .result) (coefficients .ensures)
 
 same-length-2 : tie.Need-same-length-2
 same-length-2 c =
@@ -118,32 +81,10 @@ same-length-2 c =
     let coefficients = c .before .before .before .before .coefficients in
     let as-p = c .before .before .before .as-p in
     let gain-row = c .before .gain-row in
-    row-long
-    _
-    _
-    _
-    _
-    _
-    (s .args .neg)
-    _
-    _
-    _
-    _
-    _
+    row-long _ _ _ _ _ (s .args .neg) _ _ _ _ _
     (call-terms
-    (toZ w64 (ofZ w64 (s .args .p)))
-    (toZ w64 (ofZ w64 (s .args .n)))
-    (s .args .e)
-    (s .args .t .now)
-    (s .args .a .now)
-    (s .args .b .now)
-    (sum-number .result)
-    (sum-number .ensures)
-    (if1 .left)
-    (shape-of .result)
-    (shape-of .ensures)
-    (as-p .result)
-    (as-p .ensures)
+    (toZ w64 (ofZ w64 (s .args .p))) (toZ w64 (ofZ w64 (s .args .n))) (s .args .e) (s .args .t .now) (s .args .a .now) (s .args .b .now)
+    (sum-number .result) (sum-number .ensures) (if1 .left) (shape-of .result) (shape-of .ensures) (as-p .result) (as-p .ensures)
     (coefficients .result)
     (coefficients .ensures))
     (gain-row .ensures)
@@ -157,46 +98,14 @@ returns-2 c =
     let coefficients = c .before .before .before .before .coefficients in
     let as-p = c .before .before .before .as-p in
     let gain-row = c .before .gain-row in
-    sum-plain
-    (s .args .neg)
-    (s .args .e)
-    (s .args .t .now)
-    (s .args .a .now)
-    (s .args .b .now)
-    _
-    _
-    (s .fits .p)
-    (s .fits .n)
+    sum-plain (s .args .neg) (s .args .e) (s .args .t .now) (s .args .a .now) (s .args .b .now) _ _ (s .fits .p) (s .fits .n)
     (sum-done
-    (s .args .neg)
-    (toZ w64 (ofZ w64 (s .args .p)))
-    (toZ w64 (ofZ w64 (s .args .n)))
-    (s .args .e)
-    (s .args .t .now)
-    (s .args .a .now)
-    (s .args .b .now)
-    (sum-number .result)
-    (sum-number .ensures)
-    (if1 .left)
-    _
+    (s .args .neg) (toZ w64 (ofZ w64 (s .args .p))) (toZ w64 (ofZ w64 (s .args .n))) (s .args .e) (s .args .t .now) (s .args .a .now)
+    (s .args .b .now) (sum-number .result) (sum-number .ensures) (if1 .left) _
     (call-whole
-    (toZ w64 (ofZ w64 (s .args .p)))
-    (toZ w64 (ofZ w64 (s .args .n)))
-    (s .args .e)
-    (s .args .t .now)
-    (s .args .a .now)
-    (s .args .b .now)
-    (sum-number .result)
-    (sum-number .ensures)
-    (if1 .left)
-    (shape-of .result)
-    (shape-of .ensures)
-    (as-p .result)
-    (as-p .ensures)
-    (coefficients .result)
-    (coefficients .ensures)
-    (s .args .neg)
-    _
+    (toZ w64 (ofZ w64 (s .args .p))) (toZ w64 (ofZ w64 (s .args .n))) (s .args .e) (s .args .t .now) (s .args .a .now) (s .args .b .now)
+    (sum-number .result) (sum-number .ensures) (if1 .left) (shape-of .result) (shape-of .ensures) (as-p .result) (as-p .ensures)
+    (coefficients .result) (coefficients .ensures) (s .args .neg) _
     (gain-row .ensures)))
 
 pub gained-spec : {M : Type 1} → statement M

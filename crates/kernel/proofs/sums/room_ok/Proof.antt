@@ -19,9 +19,7 @@ returns c =
     let s = c .before .before in
     let count-at = c .before .count-at in
     let if1 = c .if1 in
-    and-false-l
-    (leb (degreeCount (s .args .a .now)) (s .args .k))
-    (leb (degreeCount (s .args .b .now)) (s .args .k))
+    and-false-l (leb (degreeCount (s .args .a .now)) (s .args .k)) (leb (degreeCount (s .args .b .now)) (s .args .k))
     (lt-leb _ (s .args .k) (omega (arith, count-at .ensures, if1 .taken)))
 
 count-at-requires-2 : tie.Need-count-at-requires-2
@@ -34,9 +32,7 @@ returns-2 c =
     let if1 = c .before .if1 in
     let count-at2 = c .count-at2 in
     ap (λ m. leb m (s .args .k)) (count-at2 .ensures)
-    ∙ and-true-l
-    (leb (degreeCount (s .args .a .now)) (s .args .k))
-    (leb (degreeCount (s .args .b .now)) (s .args .k))
+    ∙ and-true-l (leb (degreeCount (s .args .a .now)) (s .args .k)) (leb (degreeCount (s .args .b .now)) (s .args .k))
     (le-leb _ (s .args .k) (omega (arith, count-at .ensures, if1 .left)))
 
 pub room-ok-spec : {M : Type 1} → statement M

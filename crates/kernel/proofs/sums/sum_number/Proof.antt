@@ -29,16 +29,8 @@ returns c =
     let s = c .before .before in
     let tower-number = c .before .tower-number in
     let if1 = c .if1 in
-    sum-first
-    (toZ w64 (ofZ w64 (s .args .p)))
-    _
-    (s .args .e)
-    (s .args .t .now)
-    (s .args .a .now)
-    (s .args .b .now)
-    (tower-number .result)
-    (tower-number .ensures)
-    (if1 .taken)
+    sum-first (toZ w64 (ofZ w64 (s .args .p))) _ (s .args .e) (s .args .t .now) (s .args .a .now) (s .args .b .now) (tower-number .result)
+    (tower-number .ensures) (if1 .taken)
     ∙ of-words (λ x y. sumNumber x y (s .args .e) (s .args .t .now) (s .args .a .now) (s .args .b .now)) (s .fits .p) (s .fits .n)
 
 shape-of-requires : tie.Need-shape-of-requires
@@ -61,22 +53,8 @@ returns-2 c =
     let shape-of = c .before .before .shape-of in
     let lengths-ok = c .before .lengths-ok in
     let if2 = c .if2 in
-    sum-short
-    (toZ w64 (ofZ w64 (s .args .p)))
-    _
-    (s .args .e)
-    (s .args .t .now)
-    (s .args .a .now)
-    (s .args .b .now)
-    (tower-number .result)
-    (tower-number .ensures)
-    (if1 .left)
-    (shape-of .result)
-    (shape-of .ensures)
-    _
-    refl
-    (lengths-ok .result)
-    (lengths-ok .ensures)
+    sum-short (toZ w64 (ofZ w64 (s .args .p))) _ (s .args .e) (s .args .t .now) (s .args .a .now) (s .args .b .now) (tower-number .result)
+    (tower-number .ensures) (if1 .left) (shape-of .result) (shape-of .ensures) _ refl (lengths-ok .result) (lengths-ok .ensures)
     (not-true _ (if2 .taken))
     ∙ of-words (λ x y. sumNumber x y (s .args .e) (s .args .t .now) (s .args .a .now) (s .args .b .now)) (s .fits .p) (s .fits .n)
 
@@ -103,26 +81,9 @@ returns-3 c =
     let as-p = c .before .before .as-p in
     let forms-ok = c .before .forms-ok in
     let if3 = c .if3 in
-    sum-bad
-    (toZ w64 (ofZ w64 (s .args .p)))
-    _
-    (s .args .e)
-    (s .args .t .now)
-    (s .args .a .now)
-    (s .args .b .now)
-    (tower-number .result)
-    (tower-number .ensures)
-    (if1 .left)
-    (shape-of .result)
-    (shape-of .ensures)
-    (as-p .result)
-    (as-p .ensures)
-    (lengths-ok .result)
-    (lengths-ok .ensures)
-    (not-false _ (if2 .left))
-    (forms-ok .result)
-    (forms-ok .ensures)
-    (not-true _ (if3 .taken))
+    sum-bad (toZ w64 (ofZ w64 (s .args .p))) _ (s .args .e) (s .args .t .now) (s .args .a .now) (s .args .b .now) (tower-number .result)
+    (tower-number .ensures) (if1 .left) (shape-of .result) (shape-of .ensures) (as-p .result) (as-p .ensures) (lengths-ok .result)
+    (lengths-ok .ensures) (not-false _ (if2 .left)) (forms-ok .result) (forms-ok .ensures) (not-true _ (if3 .taken))
     ∙ of-words (λ x y. sumNumber x y (s .args .e) (s .args .t .now) (s .args .a .now) (s .args .b .now)) (s .fits .p) (s .fits .n)
 
 coefficients-requires : tie.Need-coefficients-requires
@@ -158,30 +119,10 @@ returns-4 c =
     let room-ok = c .before .room-ok in
     let if4 = c .if4 in
     ap (λ z. unless z 6 0) (sym (not-true (room-ok .result) (if4 .taken)))
-    ∙ sum-end
-    (toZ w64 (ofZ w64 (s .args .p)))
-    _
-    (s .args .e)
-    (s .args .t .now)
-    (s .args .a .now)
-    (s .args .b .now)
-    (tower-number .result)
-    (tower-number .ensures)
-    (if1 .left)
-    (shape-of .result)
-    (shape-of .ensures)
-    (as-p .result)
-    (as-p .ensures)
-    (lengths-ok .result)
-    (lengths-ok .ensures)
-    (not-false _ (if2 .left))
-    (forms-ok .result)
-    (forms-ok .ensures)
-    (not-false _ (if3 .left))
-    (room-ok .result)
-    (coefficients .result)
-    (coefficients .ensures)
-    (room-ok .ensures)
+    ∙ sum-end (toZ w64 (ofZ w64 (s .args .p))) _ (s .args .e) (s .args .t .now) (s .args .a .now) (s .args .b .now) (tower-number .result)
+    (tower-number .ensures) (if1 .left) (shape-of .result) (shape-of .ensures) (as-p .result) (as-p .ensures) (lengths-ok .result)
+    (lengths-ok .ensures) (not-false _ (if2 .left)) (forms-ok .result) (forms-ok .ensures) (not-false _ (if3 .left)) (room-ok .result)
+    (coefficients .result) (coefficients .ensures) (room-ok .ensures)
     ∙ of-words (λ x y. sumNumber x y (s .args .e) (s .args .t .now) (s .args .a .now) (s .args .b .now)) (s .fits .p) (s .fits .n)
 
 returns-5 : tie.Need-returns-5
@@ -199,30 +140,10 @@ returns-5 c =
     let room-ok = c .before .room-ok in
     let if4 = c .if4 in
     ap (λ z. unless z 6 0) (sym (not-false (room-ok .result) (if4 .left)))
-    ∙ sum-end
-    (toZ w64 (ofZ w64 (s .args .p)))
-    _
-    (s .args .e)
-    (s .args .t .now)
-    (s .args .a .now)
-    (s .args .b .now)
-    (tower-number .result)
-    (tower-number .ensures)
-    (if1 .left)
-    (shape-of .result)
-    (shape-of .ensures)
-    (as-p .result)
-    (as-p .ensures)
-    (lengths-ok .result)
-    (lengths-ok .ensures)
-    (not-false _ (if2 .left))
-    (forms-ok .result)
-    (forms-ok .ensures)
-    (not-false _ (if3 .left))
-    (room-ok .result)
-    (coefficients .result)
-    (coefficients .ensures)
-    (room-ok .ensures)
+    ∙ sum-end (toZ w64 (ofZ w64 (s .args .p))) _ (s .args .e) (s .args .t .now) (s .args .a .now) (s .args .b .now) (tower-number .result)
+    (tower-number .ensures) (if1 .left) (shape-of .result) (shape-of .ensures) (as-p .result) (as-p .ensures) (lengths-ok .result)
+    (lengths-ok .ensures) (not-false _ (if2 .left)) (forms-ok .result) (forms-ok .ensures) (not-false _ (if3 .left)) (room-ok .result)
+    (coefficients .result) (coefficients .ensures) (room-ok .ensures)
     ∙ of-words (λ x y. sumNumber x y (s .args .e) (s .args .t .now) (s .args .a .now) (s .args .b .now)) (s .fits .p) (s .fits .n)
 
 pub sum-number-spec : {M : Type 1} → statement M

@@ -111,17 +111,8 @@ element-returns-2 t c =
     let degree-at = c .before .degree-at in
     let row = c .row in
     let h = s .pre .1 in
-    element-up
-    (s .args .p)
-    (s .args .d)
-    (s .args .x .now)
-    (s .args .a)
-    (s .args .i)
-    (if1 .left)
-    (degree-at .result)
-    (degree-at .ensures)
-    (row .result)
-    (row .ensures)
+    element-up (s .args .p) (s .args .d) (s .args .x .now) (s .args .a) (s .args .i) (if1 .left) (degree-at .result) (degree-at .ensures)
+    (row .result) (row .ensures)
 
 abbrev row-Inv-loop : row-lts.InvT-loop
 row-Inv-loop i n d z p x a c s k₀ k = (k ≤ n) × (allTo k (coefficientAt p d i x a) ≡ true)
@@ -196,24 +187,9 @@ row-returns-2 t c =
     let k = loop .k in
     let q = row-fits k (s .args .n) (size (s .args .d) (s .args .i)) (loop-test .taken) in
     let ek : k * size-at .result ≡ k * size (s .args .d) (s .args .i) = ap (λ (m : ℕ). k * m) es in
-    bad-element
-    (s .args .p)
-    (s .args .d)
-    (s .args .i)
-    (s .args .n)
-    (s .args .x .now)
-    (s .args .a)
-    (h .inside)
-    (sym (degree-ok .ensures) ∙ not-false _ (if1 .left))
-    k
-    (slot .result)
-    (count-at .result)
-    (loop-test .taken)
-    (slot .ensures ∙ ap (λ (m : ℕ). s .args .a + 1 + m) ek)
-    (count-at .ensures)
-    (element .result)
-    (element .ensures)
-    (not-true _ (if2 .taken))
+    bad-element (s .args .p) (s .args .d) (s .args .i) (s .args .n) (s .args .x .now) (s .args .a) (h .inside)
+    (sym (degree-ok .ensures) ∙ not-false _ (if1 .left)) k (slot .result) (count-at .result) (loop-test .taken)
+    (slot .ensures ∙ ap (λ (m : ℕ). s .args .a + 1 + m) ek) (count-at .ensures) (element .result) (element .ensures) (not-true _ (if2 .taken))
 
 row-is-zero-requires : (t : ℕ) → row-lts.Need-is-zero-requires (cs-row t) (row-at t) row.Post row-Inv-loop row-μ-loop
 row-is-zero-requires t c κs =
@@ -257,27 +233,10 @@ row-returns-3 t c =
     let k = loop .k in
     let q = row-fits k (s .args .n) (size (s .args .d) (s .args .i)) (loop-test .taken) in
     let ek : k * size-at .result ≡ k * size (s .args .d) (s .args .i) = ap (λ (m : ℕ). k * m) es in
-    bad-place
-    (s .args .p)
-    (s .args .d)
-    (s .args .i)
-    (s .args .n)
-    (s .args .x .now)
-    (s .args .a)
-    (h .inside)
-    (sym (degree-ok .ensures) ∙ not-false _ (if1 .left))
-    k
-    (slot .result)
-    (count-at .result)
-    (loop-test .taken)
-    (slot .ensures ∙ ap (λ (m : ℕ). s .args .a + 1 + m) ek)
-    (count-at .ensures)
-    (size-pos (s .args .d) (s .args .i))
-    (is-zero .result)
-    (is-zero .ensures)
-    (place .result)
-    (place .ensures)
-    (not-true _ (if3 .taken))
+    bad-place (s .args .p) (s .args .d) (s .args .i) (s .args .n) (s .args .x .now) (s .args .a) (h .inside)
+    (sym (degree-ok .ensures) ∙ not-false _ (if1 .left)) k (slot .result) (count-at .result) (loop-test .taken)
+    (slot .ensures ∙ ap (λ (m : ℕ). s .args .a + 1 + m) ek) (count-at .ensures) (size-pos (s .args .d) (s .args .i)) (is-zero .result)
+    (is-zero .ensures) (place .result) (place .ensures) (not-true _ (if3 .taken))
 
 row-add-k : (t : ℕ) → row-lts.Need-add-k (cs-row t) (row-at t) row.Post row-Inv-loop row-μ-loop
 row-add-k t c = omega arith
@@ -341,16 +300,8 @@ row-returns-4 t c =
     let loop = c .before .loop in
     let h = s .pre .1 in
     let e : loop .k ≡ s .args .n = omega arith in
-    finish
-    (s .args .p)
-    (s .args .d)
-    (s .args .i)
-    (s .args .n)
-    (s .args .x .now)
-    (s .args .a)
-    (h .inside)
-    (sym (degree-ok .ensures) ∙ not-false _ (if1 .left))
-    (rw e at (loop .inv .1))
+    finish (s .args .p) (s .args .d) (s .args .i) (s .args .n) (s .args .x .now) (s .args .a) (h .inside)
+    (sym (degree-ok .ensures) ∙ not-false _ (if1 .left)) (rw e at (loop .inv .1))
 
 pub +element+row-spec : {M : Type 1} → statement M
 +element+row-spec = close μ-element μ-row (λ t. element-lts.spec (cs-element t)

@@ -50,12 +50,7 @@ one-at-returns t c =
     let word-at = c .before .word-at in
     let same-word = c .same-word in
     let h = s .pre .1 in
-    one-low
-    (s .args .x .now)
-    (s .args .a)
-    (s .args .i)
-    (if1 .taken)
-    (same-word .result)
+    one-low (s .args .x .now) (s .args .a) (s .args .i) (if1 .taken) (same-word .result)
     (same-word .ensures ∙ ap (λ g. eqZ g (pos 1)) (toZ-ofZ w64 (word-at .result) (record { sfits = word-at .ok }) ∙ word-at .ensures))
 
 one-at-word-at-requires-2 : (t : ℕ) → one-at-lts.Need-word-at-requires-2 (cs-one-at t) (one-at-at t) one-at.Post
@@ -72,12 +67,7 @@ one-at-returns-2 t c =
     let same-word2 = c .before .same-word2 in
     let if2 = c .if2 in
     let h = s .pre .1 in
-    one-bad
-    (s .args .x .now)
-    (s .args .a)
-    (s .args .i)
-    (if1 .left)
-    (same-word2 .result)
+    one-bad (s .args .x .now) (s .args .a) (s .args .i) (if1 .left) (same-word2 .result)
     (same-word2 .ensures ∙ ap (λ g. eqZ g (pos 0)) (toZ-ofZ w64 (word-at2 .result) (record { sfits = word-at2 .ok }) ∙ word-at2 .ensures))
     (not-true _ (if2 .taken))
 
@@ -106,16 +96,9 @@ one-at-returns-3 t c =
     let if2 = c .before .if2 in
     let one-at = c .one-at in
     let h = s .pre .1 in
-    one-up
-    (s .args .x .now)
-    (s .args .a)
-    (s .args .i)
-    (if1 .left)
-    (same-word2 .result)
-    (one-at .result)
+    one-up (s .args .x .now) (s .args .a) (s .args .i) (if1 .left) (same-word2 .result) (one-at .result)
     (same-word2 .ensures ∙ ap (λ g. eqZ g (pos 0)) (toZ-ofZ w64 (word-at2 .result) (record { sfits = word-at2 .ok }) ∙ word-at2 .ensures))
-    (not-false _ (if2 .left))
-    (one-at .ensures)
+    (not-false _ (if2 .left)) (one-at .ensures)
 
 pub +one-at-spec : {M : Type 1} → statement M
 +one-at-spec = close μ-one-at λ t. one-at-lts.spec (cs-one-at t)

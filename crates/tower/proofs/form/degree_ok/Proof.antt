@@ -31,13 +31,8 @@ returns-2 c =
     let word-at = c .before .before .word-at in
     let if1 = c .before .if1 in
     let count = c .count in
-    degree-high
-    (word-at .result)
-    (record { sfits = word-at .ok })
-    (s .args .n)
-    (count .result)
-    (count .ensures ∙ ap countOf (toZ-ofZ w64 (word-at .result) (record { sfits = word-at .ok })))
-    (if1 .left)
+    degree-high (word-at .result) (record { sfits = word-at .ok }) (s .args .n) (count .result)
+    (count .ensures ∙ ap countOf (toZ-ofZ w64 (word-at .result) (record { sfits = word-at .ok }))) (if1 .left)
     ∙ ap (degreeOk (s .args .n)) (word-at .ensures)
 
 pub degree-ok-spec : {M : Type 1} → statement M

@@ -337,21 +337,8 @@ returns-2 c =
     let ms = modulus-size (s .args .d) j in
     let sp = size-pos (s .args .d) j in
     let em = degree-at .ensures in
-    bad-degree
-    (s .args .p)
-    (s .args .d)
-    (s .args .n)
-    (s .args .t .now)
-    (l .a)
-    (l .i)
-    j
-    ej
-    (l .inv .2)
-    (degree-is .result)
-    (degree-at .result)
-    em
-    (degree-is .ensures)
-    (not-true _ (if1 .taken))
+    bad-degree (s .args .p) (s .args .d) (s .args .n) (s .args .t .now) (l .a) (l .i) j ej (l .inv .2) (degree-is .result) (degree-at .result) em
+    (degree-is .ensures) (not-true _ (if1 .taken))
 
 returns-3 : tie.Need-returns-3 Inv-loop μ-loop Inv-levels μ-levels
 returns-3 c =
@@ -376,23 +363,8 @@ returns-3 c =
     let q = row-fits k (suc (getD (s .args .d) j 0)) (size (s .args .d) j) (omega arith) in
     let sm = suc-mul (getD (s .args .d) j 0) (size (s .args .d) j) in
     let ek : k * size-at .result ≡ k * size (s .args .d) j = ap (λ (x : ℕ). k * x) es in
-    bad-element
-    (s .args .p)
-    (s .args .d)
-    (s .args .n)
-    (s .args .t .now)
-    (l .a)
-    (l .i)
-    j
-    ej
-    (l .inv .2)
-    (element .result)
-    k
-    (slot .result)
-    (omega arith)
-    (slot .ensures ∙ ap (λ (x : ℕ). l .a + 1 + x) ek)
-    (element .ensures)
-    (not-true _ (if2 .taken))
+    bad-element (s .args .p) (s .args .d) (s .args .n) (s .args .t .now) (l .a) (l .i) j ej (l .inv .2) (element .result) k (slot .result)
+    (omega arith) (slot .ensures ∙ ap (λ (x : ℕ). l .a + 1 + x) ek) (element .ensures) (not-true _ (if2 .taken))
 
 returns-4 : tie.Need-returns-4 Inv-loop μ-loop Inv-levels μ-levels
 returns-4 c =
@@ -414,25 +386,8 @@ returns-4 c =
     let es : size-at .result ≡ size (s .args .d) j = size-at .ensures ∙ h .sized .at j (omega (arith, h .low, l .inv .1)) in
     let em = degree-at .ensures in
     let el : degree-at .result * size-at .result ≡ getD (s .args .d) j 0 * size (s .args .d) j = ap₂ _*_ em es in
-    bad-one
-    (s .args .p)
-    (s .args .d)
-    (s .args .n)
-    (s .args .t .now)
-    (l .a)
-    (l .i)
-    j
-    ej
-    (l .inv .2)
-    (loop .k)
-    (omega arith)
-    (omega arith)
-    (loop .inv .2)
-    (slot2 .result)
-    (slot2 .ensures ∙ ap (λ (x : ℕ). l .a + 1 + x) el)
-    (one-at .result)
-    (one-at .ensures)
-    (not-true _ (if3 .taken))
+    bad-one (s .args .p) (s .args .d) (s .args .n) (s .args .t .now) (l .a) (l .i) j ej (l .inv .2) (loop .k) (omega arith) (omega arith)
+    (loop .inv .2) (slot2 .result) (slot2 .ensures ∙ ap (λ (x : ℕ). l .a + 1 + x) el) (one-at .result) (one-at .ensures) (not-true _ (if3 .taken))
 
 pub tower-spec : {M : Type 1} → statement M
 tower-spec =

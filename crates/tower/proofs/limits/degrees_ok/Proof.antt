@@ -43,11 +43,7 @@ returns c =
     let g = c .before .before .g in
     let degree-in = c .before .degree-in in
     let if1 = c .if1 in
-    allTo-bad
-    4
-    (λ j. degreeIn (ltb j (s .args .n)) (getD (s .args .t2) j (pos 0)))
-    (loop .k)
-    (omega arith)
+    allTo-bad 4 (λ j. degreeIn (ltb j (s .args .n)) (getD (s .args .t2) j (pos 0))) (loop .k) (omega arith)
     ((ap (degreeIn (ltb (loop .k) (s .args .n))) (sym (toZ-ofZ w64 (getD (s .args .t2) (loop .k) (pos 0)) (record { sfits = g .given }))) ∙ sym (degree-in .ensures))
     ∙ not-true _ (if1 .taken))
 

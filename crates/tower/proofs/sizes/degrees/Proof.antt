@@ -49,14 +49,11 @@ returns c =
     let nat-arg4 = c .before .nat-arg4 in
     let nat4 = c .nat4 in
     ap₂
-    _∷_
-    (nat .ensures ∙ ap num (toZ-ofZ w64 (getD (s .args .t1) 0 (pos 0)) (record { sfits = nat-arg .given })))
+    _∷_ (nat .ensures ∙ ap num (toZ-ofZ w64 (getD (s .args .t1) 0 (pos 0)) (record { sfits = nat-arg .given })))
     (ap₂
-    _∷_
-    (nat2 .ensures ∙ ap num (toZ-ofZ w64 (getD (s .args .t1) 1 (pos 0)) (record { sfits = nat-arg2 .given })))
+    _∷_ (nat2 .ensures ∙ ap num (toZ-ofZ w64 (getD (s .args .t1) 1 (pos 0)) (record { sfits = nat-arg2 .given })))
     (ap₂
-    _∷_
-    (nat3 .ensures ∙ ap num (toZ-ofZ w64 (getD (s .args .t1) 2 (pos 0)) (record { sfits = nat-arg3 .given })))
+    _∷_ (nat3 .ensures ∙ ap num (toZ-ofZ w64 (getD (s .args .t1) 2 (pos 0)) (record { sfits = nat-arg3 .given })))
     (ap (λ (x : ℕ). x ∷ []) (nat4 .ensures ∙ ap num (toZ-ofZ w64 (getD (s .args .t1) 3 (pos 0)) (record { sfits = nat-arg4 .given }))))))
 
 pub degrees-spec : {M : Type 1} → statement M
