@@ -9,7 +9,7 @@ tested over all arguments before the next number is. 'Numbers 1 to 10 leave
 every lent word as found.'
 """
 
-from second import sequence, words
+from second import ring, sequence, words
 
 
 def first_number(tests):
@@ -68,6 +68,39 @@ def check_slot(p, levels, four_degrees, tower, slot):
     tests = (tower_tests(p, levels, four_degrees, tower)
              + slot_tests(p, levels, four_degrees, [slot]))
     return answer_of(first_number(tests)), (), (list(tower), list(slot))
+
+
+def room_for_sum(levels, four_degrees, a, b):
+    """Whether a has 'max(deg a, deg b) + 1 coefficients'; a and b are in form."""
+    count = (len(a) - 1) // words.sizes(used_degrees(levels, four_degrees))[-1]
+    return count >= max(a[0], b[0]) + 1
+
+
+def in_place(operation, p, levels, four_degrees, tower, a, b):
+    """A call whose 'answer replaces a': a and b on their values, 1 to 6."""
+    tests = (tower_tests(p, levels, four_degrees, tower)
+             + slot_tests(p, levels, four_degrees, [a, b])
+             + [(6, lambda: not room_for_sum(levels, four_degrees, a, b))])
+    number = first_number(tests)
+    if number != 0:
+        return answer_of(number), (), (list(tower), list(a), list(b))
+    degrees = used_degrees(levels, four_degrees)
+    result = operation(words.tower_from_words(p, degrees, tower), levels,
+                       words.slot_from_words(degrees, a),
+                       words.slot_from_words(degrees, b))
+    count = (len(a) - 1) // words.sizes(degrees)[-1]
+    after = words.slot_to_words(degrees, result, count)
+    return answer_of(0), (), (list(tower), after, list(b))
+
+
+def polynomial_sum(p, levels, four_degrees, tower, a, b):
+    """'sum and difference 1 to 6': a + b replaces a."""
+    return in_place(ring.poly_add, p, levels, four_degrees, tower, a, b)
+
+
+def polynomial_difference(p, levels, four_degrees, tower, a, b):
+    """'sum and difference 1 to 6': a - b replaces a."""
+    return in_place(ring.poly_subtract, p, levels, four_degrees, tower, a, b)
 
 
 def residue_of_fraction(p, n, e):

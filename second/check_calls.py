@@ -29,12 +29,26 @@ def slot_is(answer, *arguments):
     return kept(calls.check_slot, arguments, answer)
 
 
+def sum_is(answer, *arguments):
+    """What a refused sum and a refused difference must give."""
+    return all(kept(call, arguments, answer)
+               for call in (calls.polynomial_sum, calls.polynomial_difference))
+
+
+def gives(call, arguments, after):
+    """Whether a call is done, with these words in a and the other lists as found."""
+    tower, _, b = arguments[3:]
+    return call(*arguments) == (DONE, (), (tower, after, b))
+
+
 def calls_and_refusals(counter):
     """The figures, 001's example, and which number comes first."""
     figures(counter.check)
     example(counter.check)
     order_of_tower(counter.check)
     order_of_slot(counter.check)
+    sums_by_hand(counter.check)
+    order_of_sum(counter.check)
     order_of_numbers(counter.check)
 
 
@@ -90,6 +104,53 @@ def order_of_slot(check):
     check(slot_is(refused(3), *where, right[:-1], []), "3 before 4")
     check(slot_is(refused(2), 2, 2, four((2, 1)), [], []), "2 before 3")
     check(slot_is(refused(1), 1, 2, four((2, 1)), [], []), "1 first")
+
+
+# a, b, a + b and a - b by hand: modulo p, and over T7, p = 7 with m_1 = z^2 + 5.
+SUMS_OF_RESIDUES = [
+    (7, [1, 5, 3], [1, 4, 6], [1, 2, 2], [1, 1, 4]),
+    (7, [1, 5, 3], [1, 1, 4], [0, 6, 0], [1, 4, 6]),
+    (7, [2, 1, 2, 3], [2, 1, 2, 4], [1, 2, 4, 0], [2, 0, 0, 6]),
+    (7, [2, 1, 2, 3], [2, 1, 2, 3], [2, 2, 4, 6], [-1, 0, 0, 0]),
+    (6, [1, 3, 3], [1, 3, 3], [-1, 0, 0], [-1, 0, 0]),
+    (4, [-1, 0, 0], [0, 1], [0, 1, 0], [0, 3, 0]),
+    (4, [0, 1, 0], [-1, 0, 0, 0], [0, 1, 0], [0, 1, 0]),
+    (2147483647, [0, 2147483646], [0, 2147483645], [0, 2147483644], [0, 1]),
+]
+SUMS_OVER_T7 = [
+    # (z + 3)x + 2z and 6z + 4: the constants are z + 4 and 3z + 3.
+    ([1, 1, 0, 2, 1, 3, 1], [0, 1, 4, 6], [1, 1, 4, 1, 1, 3, 1], [1, 1, 3, 3, 1, 3, 1]),
+    # (z + 3)x and (6z + 4)x: zero, and (2z + 6)x.
+    ([1, -1, 0, 0, 1, 3, 1], [1, -1, 0, 0, 1, 4, 6],
+     [-1, -1, 0, 0, -1, 0, 0], [1, -1, 0, 0, 1, 6, 2]),
+    # z + 3 and 6z: 3, and 2z + 3.
+    ([0, 1, 3, 1], [0, 1, 0, 6], [0, 0, 3, 0], [0, 1, 3, 2]),
+]
+
+
+def sums_by_hand(check):
+    """Sum and difference of small polynomials, the words of a afterwards."""
+    cases = [((p, 0, four(()), [], a, b), both) for p, a, b, *both in SUMS_OF_RESIDUES]
+    cases += [((7, 1, four((2,)), [2, 5, 0, 1], a, b), both)
+              for a, b, *both in SUMS_OVER_T7]
+    for arguments, (plus, minus) in cases:
+        check(gives(calls.polynomial_sum, arguments, plus), "sum", arguments)
+        check(gives(calls.polynomial_difference, arguments, minus),
+              "difference", arguments)
+
+
+def order_of_sum(check):
+    """Each number before the later ones, over both slots before the next."""
+    right, where = power_words((2, 2)), (2, 2, four((2, 2)))
+    zero = words.slot_to_words((2, 2), (), 1)
+    check(sum_is(refused(6), *where, right, zero, SLOT_2_2), "6")
+    check(sum_is(refused(5), *where, right, [7] * 8, SLOT_2_2), "5 of a before 6")
+    check(sum_is(refused(5), *where, right, zero, [1] + [7] * 14), "5 of b before 6")
+    check(sum_is(refused(4), *where, right, [7] * 15, [7] * 16), "4 of b before 5 of a")
+    check(sum_is(refused(4), *where, right, [7] * 16, [7] * 15), "4 of a before 5 of b")
+    check(sum_is(refused(3), *where, right[:-1], [], []), "3 before 4")
+    check(sum_is(refused(2), 2, 2, four((2, 1)), [], [], []), "2 before 3")
+    check(sum_is(refused(1), 1, 2, four((2, 1)), [], [], []), "1 first")
 
 
 def order_of_numbers(check):

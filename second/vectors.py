@@ -15,7 +15,7 @@ sys.dont_write_bytecode = True
 ROOT = os.path.dirname(os.path.dirname(os.path.abspath(__file__)))
 sys.path.insert(0, ROOT)
 
-from second import calls, cases_numbers, cases_slot, cases_tower
+from second import calls, cases_numbers, cases_slot, cases_sum, cases_tower
 
 # The name in a line, the call, the groups of its cases, and the numbers it can give.
 CALLS = [
@@ -23,6 +23,8 @@ CALLS = [
     ("sizes", calls.work_sizes, cases_numbers.SIZES, {2, 5}),
     ("tower", calls.check_tower, cases_tower.TOWER, {1, 2, 3}),
     ("slot", calls.check_slot, cases_slot.SLOT, {1, 2, 3, 4, 5}),
+    ("sum", calls.polynomial_sum, cases_sum.SUM, {1, 2, 3, 4, 5, 6}),
+    ("difference", calls.polynomial_difference, cases_sum.SUM, {1, 2, 3, 4, 5, 6}),
 ]
 
 # Every call has at least so many cases.

@@ -16,6 +16,10 @@ use crate::output::put_number;
 use crate::output::put_words;
 use kernel::Answer;
 
+// The words that a list can have which a call may change: more than the longest slot has, so that
+// a slot that is too long reaches the call.
+const MOST_CHANGED: usize = 70000;
+
 // Where the words of a list stand among the numbers. A list that is not all there has no words and
 // stands behind the last number.
 struct Part {
@@ -186,6 +190,123 @@ fn slot(numbers: &[i64], line: u64, out: &mut Output, held: usize) -> usize {
     put(out, slot_told, b"\n")
 }
 
+// The words of a list at the front of a store of its own.
+fn fill(store: &mut [i64], words: &[i64])
+    requires { ⌜ length (now words) ≤ length (now store) ⌝ }
+{
+    let n = words.len();
+    let mut i: usize = 0;
+    while i < n {
+        let w = word_at(words, i);
+        store[i] = w;
+        i += 1;
+    }
+}
+
+// The difference where neg, else the sum.
+fn gained(
+    neg: bool,
+    p: i64,
+    n: i64,
+    degrees: [i64; 4],
+    tower: &[i64],
+    a: &mut [i64],
+    b: &[i64],
+) -> Answer {
+    if neg {
+        return kernel::difference(p, n, degrees, tower, a, b);
+    }
+    kernel::sum(p, n, degrees, tower, a, b)
+}
+
+fn put_gained(neg: bool, out: &mut Output, held: usize, answer: Answer) -> usize {
+    if neg {
+        return put_answer(out, held, b"difference", answer);
+    }
+    put_answer(out, held, b"sum", answer)
+}
+
+// The call, where a stands in a store of its own.
+fn gain_in(
+    neg: bool,
+    p: i64,
+    n: i64,
+    degrees: [i64; 4],
+    tower: &[i64],
+    a: &mut [i64],
+    b: &[i64],
+    out: &mut Output,
+    held: usize,
+) -> usize {
+    let answer = gained(neg, p, n, degrees, tower, a, b);
+    let answered = put_gained(neg, out, held, answer);
+    let tower_told = put_words(out, answered, tower);
+    let a_told = put_words(out, tower_told, a);
+    let b_told = put_words(out, a_told, b);
+    put(out, b_told, b"\n")
+}
+
+// The same, where a stands among the numbers.
+fn gain_copied(
+    neg: bool,
+    p: i64,
+    n: i64,
+    degrees: [i64; 4],
+    tower: &[i64],
+    a: &[i64],
+    b: &[i64],
+    out: &mut Output,
+    held: usize,
+) -> usize
+    requires { ⌜ length (now a) ≤ 70000 ⌝ }
+{
+    let count = a.len();
+    let mut store = [0i64; MOST_CHANGED];
+    fill(&mut store, a);
+    gain_in(
+        neg,
+        p,
+        n,
+        degrees,
+        tower,
+        &mut store[0..count],
+        b,
+        out,
+        held,
+    )
+}
+
+// Sum or difference: p N d1 d2 d3 d4, the tower's words, the words of a, the words of b
+fn gain(neg: bool, numbers: &[i64], line: u64, out: &mut Output, held: usize) -> usize {
+    if numbers.len() < 7 {
+        return bad_line(line, out, held);
+    }
+    let p = word_at(numbers, 0);
+    let n = word_at(numbers, 1);
+    let degrees = degrees_at(numbers, 2);
+    let tower = list_at(numbers, 6);
+    let a = list_at(numbers, tower.end);
+    let b = list_at(numbers, a.end);
+    if !last(b, numbers) {
+        return bad_line(line, out, held);
+    }
+    let changed = words(numbers, a);
+    if MOST_CHANGED < changed.len() {
+        return bad_line(line, out, held);
+    }
+    gain_copied(
+        neg,
+        p,
+        n,
+        degrees,
+        words(numbers, tower),
+        changed,
+        words(numbers, b),
+        out,
+        held,
+    )
+}
+
 // Makes the call that a line asks for.
 fn make(call: Call, numbers: &[i64], line: u64, out: &mut Output, held: usize) -> usize {
     match call {
@@ -193,6 +314,8 @@ fn make(call: Call, numbers: &[i64], line: u64, out: &mut Output, held: usize) -
         Call::Sizes => sizes(numbers, line, out, held),
         Call::Tower => tower(numbers, line, out, held),
         Call::Slot => slot(numbers, line, out, held),
+        Call::Sum => gain(false, numbers, line, out, held),
+        Call::Difference => gain(true, numbers, line, out, held),
         Call::Unknown => bad_line(line, out, held),
     }
 }

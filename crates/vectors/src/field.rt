@@ -12,6 +12,8 @@ pub enum Call {
     Sizes,
     Tower,
     Slot,
+    Sum,
+    Difference,
     Unknown,
 }
 
@@ -57,6 +59,12 @@ fn call_named(name: &[u8]) -> Call {
     }
     if same(name, b"slot") {
         return Call::Slot;
+    }
+    if same(name, b"sum") {
+        return Call::Sum;
+    }
+    if same(name, b"difference") {
+        return Call::Difference;
     }
     Call::Unknown
 }
