@@ -54,7 +54,7 @@ def sum_degrees():
 
 
 def sum_cancelling():
-    """'the degree may fall': by one, by many and to -1, in b and in its negative."""
+    """Leading coefficients cancel: the degree falls by one, by many and to -1."""
     rng = random.Random(403)
     for p, degrees in RINGS:
         tower = samples.power_tower(p, degrees)
@@ -127,11 +127,22 @@ def sum_wrong_degrees():
 
 
 def sum_tower():
-    """'tower not in form': each word of 001's damaged by one, and cut and drawn out."""
+    """'wrong length or form, or not monic': each word of 001's raised by one."""
     towers = [EXAMPLE_TOWER[:k] + [EXAMPLE_TOWER[k] + 1] + EXAMPLE_TOWER[k + 1:]
               for k in range(len(EXAMPLE_TOWER))]
-    for tower in towers + cases.other_lengths(EXAMPLE_TOWER):
+    for tower in towers:
         yield case(EXAMPLE_MODULUS, EXAMPLE_DEGREES, EXAMPLE_SLOT, EXAMPLE_SLOT, tower)
+
+
+def sum_other_lengths():
+    """Tower, a and b in turn: empty, one word short, one long, twice as long."""
+    for degrees in cases.SMALL_DEGREES:
+        right = zero_slot(degrees, 1)
+        for tower in cases.other_lengths(power_words(degrees)):
+            yield case(5, degrees, right, right, tower)
+        for other in cases.other_lengths(right):
+            yield case(5, degrees, other, right)
+            yield case(5, degrees, right, other)
 
 
 def sum_lengths():
@@ -233,5 +244,6 @@ def sum_random():
 
 SUM = [sum_example, sum_tiny, sum_degrees, sum_cancelling, sum_inner_cancelling,
        sum_with_zero, sum_near_p, sum_moduli, sum_levels, sum_wrong_degrees,
-       sum_tower, sum_lengths, sum_every_word, sum_first_bad_word, sum_leavings,
-       sum_order, sum_room, sum_largest, sum_random]
+       sum_tower, sum_other_lengths, sum_lengths, sum_every_word,
+       sum_first_bad_word, sum_leavings, sum_order, sum_room, sum_largest,
+       sum_random]
