@@ -105,3 +105,12 @@ def other_lengths(right):
     """Empty, one word short at either end, one long, and twice as long."""
     return [[], right[:-1], right[1:], right + [0], right + [-1], [0] + right,
             right + right]
+
+
+def damaged(words, modulus):
+    """The words as they are, each damaged, neighbours exchanged, cut and drawn out."""
+    lists = [words]
+    lists += each_word_replaced(words, modulus)
+    lists += neighbours_exchanged(words)
+    lists += other_lengths(words)
+    return lists

@@ -36,11 +36,7 @@ def random_slot(rng, p, degrees, degree, count):
 
 def slot_example():
     """001, Example 2, with each word damaged, and cut and drawn out."""
-    slots = [EXAMPLE_SLOT]
-    slots += cases.each_word_replaced(EXAMPLE_SLOT, EXAMPLE_MODULUS)
-    slots += cases.neighbours_exchanged(EXAMPLE_SLOT)
-    slots += cases.other_lengths(EXAMPLE_SLOT)
-    for slot in slots:
+    for slot in cases.damaged(EXAMPLE_SLOT, EXAMPLE_MODULUS):
         yield case(EXAMPLE_MODULUS, EXAMPLE_DEGREES, slot, EXAMPLE_TOWER)
 
 

@@ -23,11 +23,7 @@ def power_words(degrees):
 
 def tower_example():
     """001, Example 2, with each word damaged, and cut and drawn out."""
-    lists = [EXAMPLE_TOWER]
-    lists += cases.each_word_replaced(EXAMPLE_TOWER, EXAMPLE_MODULUS)
-    lists += cases.neighbours_exchanged(EXAMPLE_TOWER)
-    lists += cases.other_lengths(EXAMPLE_TOWER)
-    for tower in lists:
+    for tower in cases.damaged(EXAMPLE_TOWER, EXAMPLE_MODULUS):
         yield case(EXAMPLE_MODULUS, EXAMPLE_DEGREES, tower)
 
 
