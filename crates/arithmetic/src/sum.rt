@@ -3,7 +3,7 @@ ghost use mathlib.Core.Path.{_≡_};
 ghost use Rattle.residue.specs.Number.{Operands, Below};
 ghost use Rattle.arithmetic.specs.Sum.{gainedNumber, WordGained, Gained, RowGained, WordTerms, Terms, RowTerms};
 use super::rows::settle;
-use tower::form::slot;
+use tower::form::coefficient_at;
 use tower::sizes::degree_at;
 use tower::sizes::size_at;
 use tower::words::count_at;
@@ -71,7 +71,17 @@ pub fn gain_row(
     let s = size_at(z, i);
     let mut k: usize = 0;
     while k < c {
-        gain_element(i, neg, p, d, z, x, slot(a, k, s), w, slot(at, k, s));
+        gain_element(
+            i,
+            neg,
+            p,
+            d,
+            z,
+            x,
+            coefficient_at(a, k, s),
+            w,
+            coefficient_at(at, k, s),
+        );
         k += 1;
     }
     settle(i, n, s, w, at);

@@ -40,7 +40,7 @@ pub fn degree_ok(x: &[i64], a: usize, n: usize) -> bool
 }
 
 // The k-th coefficient fits a degree word that counts c: the last of them is not zero, those behind it are.
-pub fn place(c: usize, k: usize, zero: bool) -> bool
+pub fn fits_degree(c: usize, k: usize, zero: bool) -> bool
     requires { ⌜ k + 1 < 2 ^ 64 ⌝ }
     ensures { λ r. ⌜ r ≡ placeOk c k zero ⌝ }
 {
@@ -54,7 +54,7 @@ pub fn place(c: usize, k: usize, zero: bool) -> bool
 }
 
 // Where the k-th coefficient of s words stands behind the degree word at a.
-pub fn slot(a: usize, k: usize, s: usize) -> usize
+pub fn coefficient_at(a: usize, k: usize, s: usize) -> usize
     requires { ⌜ a + 1 + k * s < 2 ^ 64 ⌝ }
     ensures { λ r. ⌜ r ≡ a + 1 + k * s ⌝ }
 {
@@ -84,11 +84,11 @@ pub fn row(i: usize, n: usize, d: [usize; 4], z: [usize; 5], p: u64, x: &[i64], 
     let s = size_at(z, i);
     let mut k: usize = 0;
     while k < n {
-        let b = slot(a, k, s);
+        let b = coefficient_at(a, k, s);
         if !element(i, d, z, p, x, b) {
             return false;
         }
-        if !place(c, k, is_zero(i, x, b)) {
+        if !fits_degree(c, k, is_zero(i, x, b)) {
             return false;
         }
         k += 1;
@@ -135,17 +135,17 @@ pub fn tower(n: usize, d: [usize; 4], z: [usize; 5], p: u64, t: &[i64]) -> bool
         }
         let mut k: usize = 0;
         while k <= m {
-            if !element(i - 1, d, z, p, t, slot(a, k, s)) {
+            if !element(i - 1, d, z, p, t, coefficient_at(a, k, s)) {
                 ok = false;
                 break 'levels;
             }
             k += 1;
         }
-        if !one_at(i - 1, t, slot(a, m, s)) {
+        if !one_at(i - 1, t, coefficient_at(a, m, s)) {
             ok = false;
             break 'levels;
         }
-        a = slot(a, m + 1, s);
+        a = coefficient_at(a, m + 1, s);
         i -= 1;
     }
     ok

@@ -14,7 +14,7 @@ use Rattle.arithmetic.proofs.sum.gain_row.Kinds as gain-row-kinds
 use Rattle.arithmetic.proofs.sum.+gain_element+gain_row.Lts-gain_row as gain-row-lts
 use Rattle.arithmetic.proofs.rows.settle.Reads as settle-reads
 use Rattle.arithmetic.proofs.sum.gain_word.Reads as gain-word-reads
-use Rattle.tower.proofs.form.slot.Reads as slot-reads
+use Rattle.tower.proofs.form.coefficient_at.Reads as coefficient-at-reads
 use Rattle.tower.proofs.sizes.degree_at.Reads as degree-at-reads
 use Rattle.tower.proofs.sizes.size_at.Reads as size-at-reads
 use Rattle.tower.proofs.words.count_at.Reads as count-at-reads
@@ -62,8 +62,8 @@ cs-gain-row t = (
   count-at-reads.Learnt,
   size-at-reads.Asked,
   size-at-reads.Learnt,
-  slot-reads.Asked,
-  slot-reads.Learnt,
+  coefficient-at-reads.Asked,
+  coefficient-at-reads.Learnt,
   gain-element-below t,
   gain-element.Post,
   settle-reads.Asked,
@@ -170,8 +170,8 @@ gain-row-loop-holds t c =
     let s = c .before .before in
     (omega arith, gaining-start (s .args .p) (s .args .d) (s .args .i) (s .args .n) (s .args .neg) (s .args .x .now) (s .args .a) (s .args .w .now) (s .args .at))
 
-gain-row-slot-requires : (t : ℕ) → gain-row-lts.Need-slot-requires (cs-gain-row t) (gain-row-at t) gain-row.Post gain-row-Inv-loop gain-row-μ-loop
-gain-row-slot-requires t c κs =
+gain-row-coefficient-at-requires : (t : ℕ) → gain-row-lts.Need-coefficient-at-requires (cs-gain-row t) (gain-row-at t) gain-row.Post gain-row-Inv-loop gain-row-μ-loop
+gain-row-coefficient-at-requires t c κs =
     let s = c .before .before .before .before in
     let count-at = c .before .before .before .count-at in
     let size-at = c .before .before .size-at in
@@ -201,8 +201,8 @@ gain-row-slot-requires t c κs =
       s .good,
     )
 
-gain-row-slot-requires-2 : (t : ℕ) → gain-row-lts.Need-slot-requires-2 (cs-gain-row t) (gain-row-at t) gain-row.Post gain-row-Inv-loop gain-row-μ-loop
-gain-row-slot-requires-2 t c κs =
+gain-row-coefficient-at-requires-2 : (t : ℕ) → gain-row-lts.Need-coefficient-at-requires-2 (cs-gain-row t) (gain-row-at t) gain-row.Post gain-row-Inv-loop gain-row-μ-loop
+gain-row-coefficient-at-requires-2 t c κs =
     let s = c .before .before .before .before .before .before in
     let count-at = c .before .before .before .before .before .count-at in
     let size-at = c .before .before .before .before .size-at in
@@ -240,8 +240,8 @@ gain-row-gain-element-requires t c κs =
     let size-at = c .before .before .before .before .before .size-at in
     let loop = c .before .before .before .before .loop in
     let loop-test = c .before .before .before .loop-test in
-    let slot = c .before .before .slot in
-    let slot2 = c .slot2 in
+    let coefficient-at = c .before .before .coefficient-at in
+    let coefficient-at2 = c .coefficient-at2 in
     let es : size-at .result ≡ size (s .args .d) (s .args .i) = size-at .ensures ∙ s .pre .1 .sized .at (s .args .i) (s .pre .1 .low) in (
       omega (arith, s .pre .0),
       gaining-terms
@@ -260,10 +260,10 @@ gain-row-gain-element-requires t c κs =
           (loop .w)
           (loop .inv .1)
           (omega (arith, loop-test .taken, count-at .ensures))
-          (slot .result)
-          (slot2 .result)
-          (slot .ensures ∙ ap (λ (m : ℕ). s .args .a + 1 + loop .k * m) es)
-          (slot2 .ensures ∙ ap (λ (m : ℕ). s .args .at + 1 + loop .k * m) es),
+          (coefficient-at .result)
+          (coefficient-at2 .result)
+          (coefficient-at .ensures ∙ ap (λ (m : ℕ). s .args .a + 1 + loop .k * m) es)
+          (coefficient-at2 .ensures ∙ ap (λ (m : ℕ). s .args .at + 1 + loop .k * m) es),
     )
 
 gain-row-add-k : (t : ℕ) → gain-row-lts.Need-add-k (cs-gain-row t) (gain-row-at t) gain-row.Post gain-row-Inv-loop gain-row-μ-loop
@@ -283,8 +283,8 @@ gain-row-loop-again t c =
     let size-at = c .before .before .before .before .before .before .before .size-at in
     let loop = c .before .before .before .before .before .before .loop in
     let loop-test = c .before .before .before .before .before .loop-test in
-    let slot = c .before .before .before .before .slot in
-    let slot2 = c .before .before .slot2 in
+    let coefficient-at = c .before .before .before .before .coefficient-at in
+    let coefficient-at2 = c .before .before .coefficient-at2 in
     let gain-element = c .before .gain-element in
     let es : size-at .result ≡ size (s .args .d) (s .args .i) = size-at .ensures ∙ s .pre .1 .sized .at (s .args .i) (s .pre .1 .low) in (
       omega (arith, loop-test .taken),
@@ -304,11 +304,11 @@ gain-row-loop-again t c =
           (loop .w)
           (loop .inv .1)
           (omega (arith, loop-test .taken, count-at .ensures))
-          (slot .result)
-          (slot2 .result)
+          (coefficient-at .result)
+          (coefficient-at2 .result)
           _
-          (slot .ensures ∙ ap (λ (m : ℕ). s .args .a + 1 + loop .k * m) es)
-          (slot2 .ensures ∙ ap (λ (m : ℕ). s .args .at + 1 + loop .k * m) es)
+          (coefficient-at .ensures ∙ ap (λ (m : ℕ). s .args .a + 1 + loop .k * m) es)
+          (coefficient-at2 .ensures ∙ ap (λ (m : ℕ). s .args .at + 1 + loop .k * m) es)
           (gain-element .ensures)
           _
           (omega arith),
@@ -375,8 +375,8 @@ pub +gain-element+gain-row-spec : {M : Type 1} → statement M
     (gain-row-count-at-requires t)
     (gain-row-size-at-requires t)
     (gain-row-loop-holds t)
-    (gain-row-slot-requires t)
-    (gain-row-slot-requires-2 t)
+    (gain-row-coefficient-at-requires t)
+    (gain-row-coefficient-at-requires-2 t)
     (gain-row-gain-element-requires t)
     (gain-row-add-k t)
     (gain-row-loop-less t)

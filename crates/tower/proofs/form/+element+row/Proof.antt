@@ -20,10 +20,10 @@ use Rattle.tower.proofs.form.+element+row.Lts-row as row-lts
 use Rattle.tower.proofs.words.count_at.Reads as count-at-reads
 use Rattle.tower.proofs.sizes.degree_at.Reads as degree-at-reads
 use Rattle.tower.proofs.form.degree_ok.Reads as degree-ok-reads
-use Rattle.tower.proofs.form.place.Reads as place-reads
+use Rattle.tower.proofs.form.fits_degree.Reads as fits-degree-reads
 use Rattle.tower.proofs.form.residue.Reads as residue-reads
 use Rattle.tower.proofs.sizes.size_at.Reads as size-at-reads
-use Rattle.tower.proofs.form.slot.Reads as slot-reads
+use Rattle.tower.proofs.form.coefficient_at.Reads as coefficient-at-reads
 use Rattle.tower.proofs.store.is_zero.Reads as is-zero-reads
 use Rattle.tower.proofs.form.+element+row.{statement}
 use Rattle.tower.proofs.form.+element+row.Tie.{close}
@@ -64,14 +64,14 @@ cs-row t = (
   count-at-reads.Learnt,
   size-at-reads.Asked,
   size-at-reads.Learnt,
-  slot-reads.Asked,
-  slot-reads.Learnt,
+  coefficient-at-reads.Asked,
+  coefficient-at-reads.Learnt,
   element-below t,
   element.Post,
   is-zero-reads.Asked,
   is-zero-reads.Learnt,
-  place-reads.Asked,
-  place-reads.Learnt,
+  fits-degree-reads.Asked,
+  fits-degree-reads.Learnt,
 )
 
 element-residue-requires : (t : ℕ) → element-lts.Need-residue-requires (cs-element t) (element-at t) element.Post
@@ -143,8 +143,8 @@ row-size-at-requires t c κs =
 row-loop-holds : (t : ℕ) → row-lts.Need-loop-holds (cs-row t) (row-at t) row.Post row-Inv-loop row-μ-loop
 row-loop-holds t c = (omega arith, refl)
 
-row-slot-requires : (t : ℕ) → row-lts.Need-slot-requires (cs-row t) (row-at t) row.Post row-Inv-loop row-μ-loop
-row-slot-requires t c κs =
+row-coefficient-at-requires : (t : ℕ) → row-lts.Need-coefficient-at-requires (cs-row t) (row-at t) row.Post row-Inv-loop row-μ-loop
+row-coefficient-at-requires t c κs =
     let s = c .before .before .before .before .before .before in
     let size-at = c .before .before .size-at in
     let loop = c .before .loop in
@@ -162,13 +162,13 @@ row-element-requires t c κs =
     let size-at = c .before .before .before .size-at in
     let loop = c .before .before .loop in
     let loop-test = c .before .loop-test in
-    let slot = c .slot in
+    let coefficient-at = c .coefficient-at in
     let h = s .pre .1 in
     let es : size-at .result ≡ size (s .args .d) (s .args .i) = size-at .ensures ∙ h .sized .at (s .args .i) (h .low) in
     let k = loop .k in
     let q = row-fits k (s .args .n) (size (s .args .d) (s .args .i)) (loop-test .taken) in
     let ek : k * size-at .result ≡ k * size (s .args .d) (s .args .i) = ap (λ (m : ℕ). k * m) es in
-    (omega (arith, s .pre .0), record { low = h .low; sized = h .sized; inside = omega (arith, h .inside, q, ek, slot .ensures) })
+    (omega (arith, s .pre .0), record { low = h .low; sized = h .sized; inside = omega (arith, h .inside, q, ek, coefficient-at .ensures) })
 
 row-returns-2 : (t : ℕ) → row-lts.Need-returns-2 (cs-row t) (row-at t) row.Post row-Inv-loop row-μ-loop
 row-returns-2 t c =
@@ -179,7 +179,7 @@ row-returns-2 t c =
     let size-at = c .before .before .before .before .before .size-at in
     let loop = c .before .before .before .before .loop in
     let loop-test = c .before .before .before .loop-test in
-    let slot = c .before .before .slot in
+    let coefficient-at = c .before .before .coefficient-at in
     let element = c .before .element in
     let if2 = c .if2 in
     let h = s .pre .1 in
@@ -188,8 +188,8 @@ row-returns-2 t c =
     let q = row-fits k (s .args .n) (size (s .args .d) (s .args .i)) (loop-test .taken) in
     let ek : k * size-at .result ≡ k * size (s .args .d) (s .args .i) = ap (λ (m : ℕ). k * m) es in
     bad-element (s .args .p) (s .args .d) (s .args .i) (s .args .n) (s .args .x .now) (s .args .a) (h .inside)
-    (sym (degree-ok .ensures) ∙ not-false _ (if1 .left)) k (slot .result) (count-at .result) (loop-test .taken)
-    (slot .ensures ∙ ap (λ (m : ℕ). s .args .a + 1 + m) ek) (count-at .ensures) (element .result) (element .ensures) (not-true _ (if2 .taken))
+    (sym (degree-ok .ensures) ∙ not-false _ (if1 .left)) k (coefficient-at .result) (count-at .result) (loop-test .taken)
+    (coefficient-at .ensures ∙ ap (λ (m : ℕ). s .args .a + 1 + m) ek) (count-at .ensures) (element .result) (element .ensures) (not-true _ (if2 .taken))
 
 row-is-zero-requires : (t : ℕ) → row-lts.Need-is-zero-requires (cs-row t) (row-at t) row.Post row-Inv-loop row-μ-loop
 row-is-zero-requires t c κs =
@@ -197,16 +197,16 @@ row-is-zero-requires t c κs =
     let size-at = c .before .before .before .before .before .size-at in
     let loop = c .before .before .before .before .loop in
     let loop-test = c .before .before .before .loop-test in
-    let slot = c .before .before .slot in
+    let coefficient-at = c .before .before .coefficient-at in
     let h = s .pre .1 in
     let es : size-at .result ≡ size (s .args .d) (s .args .i) = size-at .ensures ∙ h .sized .at (s .args .i) (h .low) in
     let k = loop .k in
     let q = row-fits k (s .args .n) (size (s .args .d) (s .args .i)) (loop-test .taken) in
     let ek : k * size-at .result ≡ k * size (s .args .d) (s .args .i) = ap (λ (m : ℕ). k * m) es in
-    omega (arith, h .inside, q, ek, slot .ensures, size-pos (s .args .d) (s .args .i))
+    omega (arith, h .inside, q, ek, coefficient-at .ensures, size-pos (s .args .d) (s .args .i))
 
-row-place-requires : (t : ℕ) → row-lts.Need-place-requires (cs-row t) (row-at t) row.Post row-Inv-loop row-μ-loop
-row-place-requires t c κs =
+row-fits-degree-requires : (t : ℕ) → row-lts.Need-fits-degree-requires (cs-row t) (row-at t) row.Post row-Inv-loop row-μ-loop
+row-fits-degree-requires t c κs =
     let s = c .before .before .before .before .before .before .before .before .before .before in
     let loop = c .before .before .before .before .before .loop in
     let loop-test = c .before .before .before .before .loop-test in
@@ -224,9 +224,9 @@ row-returns-3 t c =
     let size-at = c .before .before .before .before .before .before .before .before .size-at in
     let loop = c .before .before .before .before .before .before .before .loop in
     let loop-test = c .before .before .before .before .before .before .loop-test in
-    let slot = c .before .before .before .before .before .slot in
+    let coefficient-at = c .before .before .before .before .before .coefficient-at in
     let is-zero = c .before .before .is-zero in
-    let place = c .before .place in
+    let fits-degree = c .before .fits-degree in
     let if3 = c .if3 in
     let h = s .pre .1 in
     let es : size-at .result ≡ size (s .args .d) (s .args .i) = size-at .ensures ∙ h .sized .at (s .args .i) (h .low) in
@@ -234,9 +234,9 @@ row-returns-3 t c =
     let q = row-fits k (s .args .n) (size (s .args .d) (s .args .i)) (loop-test .taken) in
     let ek : k * size-at .result ≡ k * size (s .args .d) (s .args .i) = ap (λ (m : ℕ). k * m) es in
     bad-place (s .args .p) (s .args .d) (s .args .i) (s .args .n) (s .args .x .now) (s .args .a) (h .inside)
-    (sym (degree-ok .ensures) ∙ not-false _ (if1 .left)) k (slot .result) (count-at .result) (loop-test .taken)
-    (slot .ensures ∙ ap (λ (m : ℕ). s .args .a + 1 + m) ek) (count-at .ensures) (size-pos (s .args .d) (s .args .i)) (is-zero .result)
-    (is-zero .ensures) (place .result) (place .ensures) (not-true _ (if3 .taken))
+    (sym (degree-ok .ensures) ∙ not-false _ (if1 .left)) k (coefficient-at .result) (count-at .result) (loop-test .taken)
+    (coefficient-at .ensures ∙ ap (λ (m : ℕ). s .args .a + 1 + m) ek) (count-at .ensures) (size-pos (s .args .d) (s .args .i)) (is-zero .result)
+    (is-zero .ensures) (fits-degree .result) (fits-degree .ensures) (not-true _ (if3 .taken))
 
 row-add-k : (t : ℕ) → row-lts.Need-add-k (cs-row t) (row-at t) row.Post row-Inv-loop row-μ-loop
 row-add-k t c = omega arith
@@ -253,11 +253,11 @@ row-loop-again t c =
     let size-at = c .before .before .before .before .before .before .before .before .size-at in
     let loop = c .before .before .before .before .before .before .before .loop in
     let loop-test = c .before .before .before .before .before .before .loop-test in
-    let slot = c .before .before .before .before .before .slot in
+    let coefficient-at = c .before .before .before .before .before .coefficient-at in
     let element = c .before .before .before .before .element in
     let if2 = c .before .before .before .if2 in
     let is-zero = c .before .before .is-zero in
-    let place = c .before .place in
+    let fits-degree = c .before .fits-degree in
     let if3 = c .if3 in
     let h = s .pre .1 in
     let es : size-at .result ≡ size (s .args .d) (s .args .i) = size-at .ensures ∙ h .sized .at (s .args .i) (h .low) in
@@ -275,19 +275,19 @@ row-loop-again t c =
           (h .inside)
           (sym (degree-ok .ensures) ∙ not-false _ (if1 .left))
           k
-          (slot .result)
+          (coefficient-at .result)
           (count-at .result)
           (loop-test .taken)
-          (slot .ensures ∙ ap (λ (m : ℕ). s .args .a + 1 + m) ek)
+          (coefficient-at .ensures ∙ ap (λ (m : ℕ). s .args .a + 1 + m) ek)
           (count-at .ensures)
           (size-pos (s .args .d) (s .args .i))
           (is-zero .result)
           (is-zero .ensures)
           (element .result)
-          (place .result)
+          (fits-degree .result)
           (element .ensures)
           (not-false _ (if2 .left))
-          (place .ensures)
+          (fits-degree .ensures)
           (not-false _ (if3 .left))
           (loop .inv .1),
     )
@@ -321,14 +321,14 @@ pub +element+row-spec : {M : Type 1} → statement M
       count-at-reads.Learnt,
       size-at-reads.Asked,
       size-at-reads.Learnt,
-      slot-reads.Asked,
-      slot-reads.Learnt,
+      coefficient-at-reads.Asked,
+      coefficient-at-reads.Learnt,
       element-below t,
       element.Post,
       is-zero-reads.Asked,
       is-zero-reads.Learnt,
-      place-reads.Asked,
-      place-reads.Learnt,
+      fits-degree-reads.Asked,
+      fits-degree-reads.Learnt,
     )
     (row-at t)
     row.Post
@@ -339,11 +339,11 @@ pub +element+row-spec : {M : Type 1} → statement M
     (row-count-at-requires t)
     (row-size-at-requires t)
     (row-loop-holds t)
-    (row-slot-requires t)
+    (row-coefficient-at-requires t)
     (row-element-requires t)
     (row-returns-2 t)
     (row-is-zero-requires t)
-    (row-place-requires t)
+    (row-fits-degree-requires t)
     (row-returns-3 t)
     (row-add-k t)
     (row-loop-less t)

@@ -19,7 +19,7 @@ use Rattle.tower.proofs.form.degree_is.Reads as degree-is-reads
 use Rattle.tower.proofs.form.element.Reads as element-reads
 use Rattle.tower.proofs.form.one_at.Reads as one-at-reads
 use Rattle.tower.proofs.sizes.size_at.Reads as size-at-reads
-use Rattle.tower.proofs.form.slot.Reads as slot-reads
+use Rattle.tower.proofs.form.coefficient_at.Reads as coefficient-at-reads
 
 abbrev Inv-loop : tie.InvT-loop
 Inv-loop n d z p t ok₀ a i m s k₀ ok k = (ok ≡ true) × (k ≤ m + 1) × (allTo k (elementAt p d (i - 1) t a) ≡ true)
@@ -83,8 +83,8 @@ loop-holds c =
 sub-element : tie.Need-sub-element Inv-loop μ-loop Inv-levels μ-levels
 sub-element c = omega arith
 
-slot-requires : tie.Need-slot-requires Inv-loop μ-loop Inv-levels μ-levels
-slot-requires c κs =
+coefficient-at-requires : tie.Need-coefficient-at-requires Inv-loop μ-loop Inv-levels μ-levels
+coefficient-at-requires c κs =
     let s = c .before .before .before .before .before .before .before .before in
     let levels = c .before .before .before .before .before .before .before .levels in
     let degree-at = c .before .before .before .before .before .degree-at in
@@ -112,7 +112,7 @@ element-requires c κs =
     let degree-at = c .before .before .before .before .before .before .degree-at in
     let size-at = c .before .before .before .before .before .size-at in
     let loop = c .before .before .loop in
-    let slot = c .slot in
+    let coefficient-at = c .coefficient-at in
     let h = s .pre in
     let l = levels in
     let j = l .i - 1 in
@@ -126,7 +126,7 @@ element-requires c κs =
     let q = row-fits k (suc (getD (s .args .d) j 0)) (size (s .args .d) j) (omega arith) in
     let sm = suc-mul (getD (s .args .d) j 0) (size (s .args .d) j) in
     let ek : k * size-at .result ≡ k * size (s .args .d) j = ap (λ (x : ℕ). k * x) es in
-    record { low = omega (arith, h .low, l .inv .1); sized = h .sized; inside = omega (arith, slot .ensures) }
+    record { low = omega (arith, h .low, l .inv .1); sized = h .sized; inside = omega (arith, coefficient-at .ensures) }
 
 add-k : tie.Need-add-k Inv-loop μ-loop Inv-levels μ-levels
 add-k c =
@@ -153,7 +153,7 @@ loop-again c =
     let degree-at = c .before .before .before .before .before .before .before .before .degree-at in
     let size-at = c .before .before .before .before .before .before .before .size-at in
     let loop = c .before .before .before .before .loop in
-    let slot = c .before .before .slot in
+    let coefficient-at = c .before .before .coefficient-at in
     let element = c .before .element in
     let if2 = c .if2 in
     let h = s .pre in
@@ -175,7 +175,7 @@ loop-again c =
           k
           (elementAt (s .args .p) (s .args .d) j (s .args .t .now) (l .a))
           (loop .inv .2)
-          (ap (λ (x : ℕ). inForm (s .args .p) (s .args .d) j (seg x (size (s .args .d) j) (s .args .t .now))) (sym (slot .ensures ∙ ap (λ (x : ℕ). l .a + 1 + x) ek))
+          (ap (λ (x : ℕ). inForm (s .args .p) (s .args .d) j (seg x (size (s .args .d) j) (s .args .t .now))) (sym (coefficient-at .ensures ∙ ap (λ (x : ℕ). l .a + 1 + x) ek))
           ∙ sym (element .ensures)
           ∙ not-false _ (if2 .left)),
     )
@@ -183,8 +183,8 @@ loop-again c =
 sub-one-at : tie.Need-sub-one-at Inv-loop μ-loop Inv-levels μ-levels
 sub-one-at c = omega arith
 
-slot-requires-2 : tie.Need-slot-requires-2 Inv-loop μ-loop Inv-levels μ-levels
-slot-requires-2 c κs =
+coefficient-at-requires-2 : tie.Need-coefficient-at-requires-2 Inv-loop μ-loop Inv-levels μ-levels
+coefficient-at-requires-2 c κs =
     let s = c .before .before .before .before .before .before .before .before in
     let levels = c .before .before .before .before .before .before .before .levels in
     let degree-at = c .before .before .before .before .before .degree-at in
@@ -207,7 +207,7 @@ one-at-requires c κs =
     let levels = c .before .before .before .before .before .before .before .before .levels in
     let degree-at = c .before .before .before .before .before .before .degree-at in
     let size-at = c .before .before .before .before .before .size-at in
-    let slot2 = c .slot2 in
+    let coefficient-at2 = c .coefficient-at2 in
     let h = s .pre in
     let l = levels in
     let j = l .i - 1 in
@@ -218,10 +218,10 @@ one-at-requires c κs =
     let es : size-at .result ≡ size (s .args .d) j = size-at .ensures ∙ h .sized .at j (omega (arith, h .low, l .inv .1)) in
     let em = degree-at .ensures in
     let el : degree-at .result * size-at .result ≡ getD (s .args .d) j 0 * size (s .args .d) j = ap₂ _*_ em es in
-    omega (arith, tower-over (s .args .d) j, slot2 .ensures)
+    omega (arith, tower-over (s .args .d) j, coefficient-at2 .ensures)
 
-add-slot : tie.Need-add-slot Inv-loop μ-loop Inv-levels μ-levels
-add-slot c =
+add-coefficient-at : tie.Need-add-coefficient-at Inv-loop μ-loop Inv-levels μ-levels
+add-coefficient-at c =
     let s = c .before .before .before .before .before .before .before .before .before .before .before in
     let levels = c .before .before .before .before .before .before .before .before .before .before .levels in
     let degree-at = c .before .before .before .before .before .before .before .before .degree-at in
@@ -235,8 +235,8 @@ add-slot c =
     let em = degree-at .ensures in
     omega (arith, under (getD (s .args .d) j 0) (size (s .args .d) j) sp, s .good)
 
-slot-requires-3 : tie.Need-slot-requires-3 Inv-loop μ-loop Inv-levels μ-levels
-slot-requires-3 c κs =
+coefficient-at-requires-3 : tie.Need-coefficient-at-requires-3 Inv-loop μ-loop Inv-levels μ-levels
+coefficient-at-requires-3 c κs =
     let s = c .before .before .before .before .before .before .before .before .before .before .before in
     let levels = c .before .before .before .before .before .before .before .before .before .before .levels in
     let degree-at = c .before .before .before .before .before .before .before .before .degree-at in
@@ -268,10 +268,10 @@ levels-again c =
     let degree-is = c .before .before .before .before .before .before .before .degree-is in
     let if1 = c .before .before .before .before .before .before .if1 in
     let loop = c .before .before .before .before .before .loop in
-    let slot2 = c .before .before .before .slot2 in
+    let coefficient-at2 = c .before .before .before .coefficient-at2 in
     let one-at = c .before .before .one-at in
     let if3 = c .before .if3 in
-    let slot3 = c .slot3 in
+    let coefficient-at3 = c .coefficient-at3 in
     let h = s .pre in
     let l = levels in
     let j = l .i - 1 in
@@ -299,8 +299,8 @@ levels-again c =
           (omega arith)
           (omega arith)
           (loop .inv .2)
-          (slot2 .result)
-          (slot2 .ensures ∙ ap (λ (x : ℕ). l .a + 1 + x) el)
+          (coefficient-at2 .result)
+          (coefficient-at2 .ensures ∙ ap (λ (x : ℕ). l .a + 1 + x) el)
           (one-at .result)
           (one-at .ensures)
           (degree-at .result)
@@ -309,8 +309,8 @@ levels-again c =
           (degree-is .ensures)
           (not-false _ (if1 .left))
           (not-false _ (if3 .left))
-          (slot3 .result)
-          (slot3 .ensures ∙ ap (λ (x : ℕ). l .a + 1 + x) eh),
+          (coefficient-at3 .result)
+          (coefficient-at3 .ensures ∙ ap (λ (x : ℕ). l .a + 1 + x) eh),
     )
 
 returns : tie.Need-returns Inv-loop μ-loop Inv-levels μ-levels
@@ -347,7 +347,7 @@ returns-3 c =
     let degree-at = c .before .before .before .before .before .before .before .before .degree-at in
     let size-at = c .before .before .before .before .before .before .before .size-at in
     let loop = c .before .before .before .before .loop in
-    let slot = c .before .before .slot in
+    let coefficient-at = c .before .before .coefficient-at in
     let element = c .before .element in
     let if2 = c .if2 in
     let h = s .pre in
@@ -363,8 +363,8 @@ returns-3 c =
     let q = row-fits k (suc (getD (s .args .d) j 0)) (size (s .args .d) j) (omega arith) in
     let sm = suc-mul (getD (s .args .d) j 0) (size (s .args .d) j) in
     let ek : k * size-at .result ≡ k * size (s .args .d) j = ap (λ (x : ℕ). k * x) es in
-    bad-element (s .args .p) (s .args .d) (s .args .n) (s .args .t .now) (l .a) (l .i) j ej (l .inv .2) (element .result) k (slot .result)
-    (omega arith) (slot .ensures ∙ ap (λ (x : ℕ). l .a + 1 + x) ek) (element .ensures) (not-true _ (if2 .taken))
+    bad-element (s .args .p) (s .args .d) (s .args .n) (s .args .t .now) (l .a) (l .i) j ej (l .inv .2) (element .result) k (coefficient-at .result)
+    (omega arith) (coefficient-at .ensures ∙ ap (λ (x : ℕ). l .a + 1 + x) ek) (element .ensures) (not-true _ (if2 .taken))
 
 returns-4 : tie.Need-returns-4 Inv-loop μ-loop Inv-levels μ-levels
 returns-4 c =
@@ -373,7 +373,7 @@ returns-4 c =
     let degree-at = c .before .before .before .before .before .before .before .before .degree-at in
     let size-at = c .before .before .before .before .before .before .before .size-at in
     let loop = c .before .before .before .before .loop in
-    let slot2 = c .before .before .slot2 in
+    let coefficient-at2 = c .before .before .coefficient-at2 in
     let one-at = c .before .one-at in
     let if3 = c .if3 in
     let h = s .pre in
@@ -387,7 +387,7 @@ returns-4 c =
     let em = degree-at .ensures in
     let el : degree-at .result * size-at .result ≡ getD (s .args .d) j 0 * size (s .args .d) j = ap₂ _*_ em es in
     bad-one (s .args .p) (s .args .d) (s .args .n) (s .args .t .now) (l .a) (l .i) j ej (l .inv .2) (loop .k) (omega arith) (omega arith)
-    (loop .inv .2) (slot2 .result) (slot2 .ensures ∙ ap (λ (x : ℕ). l .a + 1 + x) el) (one-at .result) (one-at .ensures) (not-true _ (if3 .taken))
+    (loop .inv .2) (coefficient-at2 .result) (coefficient-at2 .ensures ∙ ap (λ (x : ℕ). l .a + 1 + x) el) (one-at .result) (one-at .ensures) (not-true _ (if3 .taken))
 
 pub tower-spec : {M : Type 1} → statement M
 tower-spec =
@@ -405,16 +405,16 @@ tower-spec =
     degree-is-requires
     loop-holds
     sub-element
-    slot-requires
+    coefficient-at-requires
     element-requires
     add-k
     loop-less
     loop-again
     sub-one-at
-    slot-requires-2
+    coefficient-at-requires-2
     one-at-requires
-    add-slot
-    slot-requires-3
+    add-coefficient-at
+    coefficient-at-requires-3
     sub-i
     levels-less
     levels-again

@@ -1,9 +1,9 @@
 use Rattle.tower.proofs.Laws.{place-at, place-over, place-under}
 use borrow.Author.Needs.{needs}
-use Rattle.tower.proofs.form.place.Statement.{statement}
-use Rattle.tower.proofs.form.place.Tie as tie
-use Rattle.tower.proofs.form.place.Reads as reads
-use Rattle.tower.proofs.form.place.Lts as lts
+use Rattle.tower.proofs.form.fits_degree.Statement.{statement}
+use Rattle.tower.proofs.form.fits_degree.Tie as tie
+use Rattle.tower.proofs.form.fits_degree.Reads as reads
+use Rattle.tower.proofs.form.fits_degree.Lts as lts
 
 add-if1 : tie.Need-add-if1
 add-if1 c = search needs
@@ -28,5 +28,5 @@ returns-3 c =
     let if2 = c .if2 in
     place-under (s .args .c) (s .args .k) (s .args .zero) (if1 .left) (if2 .left)
 
-pub place-spec : {M : Type 1} → statement M
-place-spec = tie.close (tie.spec add-if1 returns returns-2 returns-3)
+pub fits-degree-spec : {M : Type 1} → statement M
+fits-degree-spec = tie.close (tie.spec add-if1 returns returns-2 returns-3)
