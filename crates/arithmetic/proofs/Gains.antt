@@ -147,7 +147,7 @@ module _ (p : ℕ) (d z : List ℕ) (i n : ℕ) (neg : Bool) (x : List ℤ) (a :
             (λ j q. block j (le-or-lt k j) q ∙ ap (write p d i) (sym (gained-at (group p p-pos d i) neg n l u v j q)))
 
         done : Put b (slot p d i n r) w w′
-        done = h p d r p-pos es stands
+        done = h .1 p d r p-pos es stands
 
         far : b + 1 + k * size d i ≤ b + length (slot p d i n r)
         far =

@@ -13,7 +13,7 @@ use Rattle.algebra.specs.Test.{le-or-lt}
 use Rattle.algebra.specs.Shape.{strip, count}
 use mathlib.Core.Logic.{_↔_, _⊎_, inl, inr}
 use Rattle.tower.specs.Levels.{El, isZero, group, zero-test}
-use Rattle.tower.specs.Writing.{size, degreeWord, write, writes, writes-long, write-long}
+use Rattle.tower.specs.Writing.{size, degreeWord, write, writes, writes-long, write-long, slot}
 use Rattle.tower.specs.Form.{eqZ, seg}
 use Rattle.tower.specs.Heads.{headOf}
 use Rattle.tower.specs.Lists.{of-true}
@@ -92,8 +92,9 @@ degree-some zero h = absurd (h refl)
 degree-some (suc c) h = ap pos (omega arith)
 
 -- the coefficients stand behind it as before
-pub settled : (i n s a : ℕ) (w w′ : List ℤ) (r : ℕ) → Top i n s w (a + 1) r → Put a (degreeWord r ∷ []) w w′ → Settled i n s a w w′
-settled i n s a w w′ r t q p d v p-pos es h = put-append refl head (record { kept = kept-refl (a + 1) (length l) w′; here = same })
+slot-settled : (i n s a : ℕ) (w w′ : List ℤ) (r : ℕ) → Top i n s w (a + 1) r → Put a (degreeWord r ∷ []) w w′
+    → (p : ℕ) (d : List ℕ) (v : Vec (El p d i) n) → 0 < p → s ≡ size d i → RunStands p d i n v w (a + 1) → Put a (slot p d i n v) w w′
+slot-settled i n s a w w′ r t q p d v p-pos es h = put-append refl head (record { kept = kept-refl (a + 1) (length l) w′; here = same })
   where
     l : List ℤ
     l = writes (write p d i) n v
@@ -106,6 +107,9 @@ settled i n s a w w′ r t q p d v p-pos es h = put-append refl head (record { k
 
     same : seg (a + 1) (length l) w′ ≡ l
     same = kept-seg (a + 1) (length l) (inr (omega arith)) (q .kept) ∙ ap (λ m. seg (a + 1) m w) long ∙ h
+
+pub settled : (i n s a : ℕ) (w w′ : List ℤ) (r : ℕ) → Top i n s w (a + 1) r → Put a (degreeWord r ∷ []) w w′ → Settled i n s a w w′
+settled i n s a w w′ r t q = (q .kept, slot-settled i n s a w w′ r t q)
 
 pub some-each : (n s : ℕ) → 1 ≤ s → n ≤ n * s
 some-each n s h = rw (mul-one n) at (mul-le-mul-left n h)

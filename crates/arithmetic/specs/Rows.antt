@@ -21,7 +21,7 @@ use Rattle.tower.specs.Form.{seg, inForm, zeroWords}
 use Rattle.tower.specs.Lists.{seg-seg, seg-long}
 use Rattle.tower.specs.Coding.{Coding, block-up, coef-reads, writes-reads}
 use Rattle.tower.specs.Unique.{coding, laws}
-use Rattle.tower.specs.Store.{Put}
+use Rattle.tower.specs.Store.{Kept, Put}
 use Rattle.tower.specs.Stands.{Stands}
 
 abbrev pub RunStands : (p : ℕ) (d : List ℕ) (i k : ℕ) → Vec (El p d i) k → List ℤ → ℕ → Type 0
@@ -32,10 +32,11 @@ abbrev pub Top : (i k s : ℕ) → List ℤ → ℕ → ℕ → Type 0
 Top i k s w a r =
     (p : ℕ) (d : List ℕ) (v : Vec (El p d i) k) → 0 < p → s ≡ size d i → RunStands p d i k v w a → count (strip (isZero p d i) k v) ≡ r
 
--- the degree word at a now is that of the k elements behind it
+-- the one word at a was written, and it is the degree word of the k elements behind it
 abbrev pub Settled : (i k s : ℕ) → ℕ → List ℤ → List ℤ → Type 0
 Settled i k s a w w′ =
-    (p : ℕ) (d : List ℕ) (v : Vec (El p d i) k) → 0 < p → s ≡ size d i → RunStands p d i k v w (a + 1) → Put a (slot p d i k v) w w′
+    Kept a 1 w w′
+    × ((p : ℕ) (d : List ℕ) (v : Vec (El p d i) k) → 0 < p → s ≡ size d i → RunStands p d i k v w (a + 1) → Put a (slot p d i k v) w w′)
 
 block-inside : (j k s : ℕ) → j < k → j * s + s ≤ k * s
 block-inside j k s h = let h′ : suc j * s ≤ k * s = mul-le-mul-right s h in omega (arith, h′, suc-mul j s)

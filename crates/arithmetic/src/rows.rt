@@ -6,16 +6,9 @@ ghost use lib.ListN.{length};
 ghost use Rattle.tower.specs.Writing.{degreeWord};
 ghost use Rattle.tower.specs.Store.{Put};
 ghost use Rattle.arithmetic.specs.Rows.{Top, Settled};
+use tower::form::coefficient_at;
 use tower::store::is_zero;
 use tower::store::put_word;
-
-// Where the k-th of elements of s words stands that begin at a.
-pub fn place(a: usize, k: usize, s: usize) -> usize
-    requires { ⌜ a + k * s < 2 ^ 64 ⌝ }
-    ensures { λ r. ⌜ r ≡ a + k * s ⌝ }
-{
-    a + k * s
-}
 
 // A degree word for c coefficients up to the highest.
 pub fn put_degree(w: &mut [i64], at: usize, c: usize)
@@ -29,14 +22,14 @@ pub fn put_degree(w: &mut [i64], at: usize, c: usize)
     put_word(w, at, (c - 1) as i64);
 }
 
-// The highest of n elements of level i, each of s words, that is not zero, counted from 1; 0 where all are zero.
+// The highest of the n elements of level i, each of s words, behind the degree word at a place, that is not zero, counted from 1; 0 where all are zero.
 pub fn top_of(i: usize, n: usize, s: usize, w: &[i64], at: usize) -> usize
-    requires { ⌜ (1 ≤ s) × (at + n * s ≤ length (now w)) ⌝ }
-    ensures { λ r. ⌜ Top i n s (now (w .entry)) at r × (r ≤ n) ⌝ }
+    requires { ⌜ (1 ≤ s) × (at + 1 + n * s ≤ length (now w)) ⌝ }
+    ensures { λ r. ⌜ Top i n s (now (w .entry)) (at + 1) r × (r ≤ n) ⌝ }
 {
     let mut k = n;
     while 0 < k {
-        if !is_zero(i, w, place(at, k - 1, s)) {
+        if !is_zero(i, w, coefficient_at(at, k - 1, s)) {
             return k;
         }
         k -= 1;
@@ -49,6 +42,6 @@ pub fn settle(i: usize, n: usize, s: usize, w: &mut [i64], at: usize)
     requires { ⌜ (1 ≤ s) × (at + 1 + n * s ≤ length (now w)) ⌝ }
     ensures { λ _. ⌜ Settled i n s at (now (w .entry)) (now (w .exit)) ⌝ }
 {
-    let c = top_of(i, n, s, w, at + 1);
+    let c = top_of(i, n, s, w, at);
     put_degree(w, at, c);
 }

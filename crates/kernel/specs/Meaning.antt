@@ -1,9 +1,10 @@
 -- What the numbers 0 to 3 say of a tower: no number exactly where p, N and the degrees are in range and the words are those of exactly one tower; each other
 -- number exactly where it is the first whose condition holds.
 --
--- InRange p n e     == p, N and the degrees are in range;  ones == then 1 and 0 differ at every level
+-- DegreesIn n e     == N and the degrees are in range;  InRange p n e == and p;  ones == then 1 and 0 differ at every level
 -- TowerOf, wordsOf  == the towers that they allow, and their words
 -- TowerMeans        == for each number what it says; a number that is not used says ⊥
+-- shape-out         == N and the degrees out of range give number 2
 -- tower-says        == a number that is given comes under its condition;  tower-given == and under its condition it is given
 -- tower-answers     == the same of what the call says
 -- tower-passes      == the words of every tower in range get no number;  tower-numbers == no number above 3 is given
@@ -11,7 +12,7 @@ use Prim.Native.Nat.{ℕ, zero, suc, _<_, _≤_}
 use mathlib.Core.Path.{_≡_, refl, ap, subst}
 use mathlib.Core.Bool.{true, not}
 use mathlib.Core.Logic.{_↔_, inl, inr}
-use mathlib.Core.List.{List}
+use mathlib.Core.List.{List, [], _∷_, _++_}
 use native.Mathlib.Nat.{lt-irrefl}
 use native.Mathlib.Omega.{arith}
 use lib.IntN.{ℤ, pos}
@@ -26,15 +27,19 @@ use Rattle.tower.specs.Lists.{to-true}
 use Rattle.tower.specs.Limits.{pOk, p-two, p-positive, levelsOk, degreeIn, degreesOk, degreesOf, sizeOk, size-few, few-size}
 use Rattle.tower.specs.Unique.{Exactly}
 use Rattle.tower.specs.TowerUnique.{tower-iff, tower-good}
-use Rattle.kernel.specs.Refusals.{refusal, refusal-inj, Numbered, passed-of, first-of, Applies, first-applies, first-is}
-use Rattle.kernel.specs.Calls.{towerTable, towerNumber, checkTower}
+use Rattle.kernel.specs.Refusals.{refusal, refusal-inj, Table, Numbered, passed-of, first-of, Applies, first-applies, first-is}
+use Rattle.kernel.specs.Calls.{shapeTable, towerRow, towerTable, towerNumber, checkTower}
+
+-- N and the degrees are in range
+pub record DegreesIn (n : ℤ) (e : List ℤ) : Type 0 where
+  pub levels : T (levelsOk n)
+  pub degrees : T (degreesOk (num n) e)
+  pub few : size (degreesOf e) (num n) ≤ 2048
 
 -- p, N and the degrees are in range
 pub record InRange (p n : ℤ) (e : List ℤ) : Type 0 where
   pub modulus : T (pOk p)
-  pub levels : T (levelsOk n)
-  pub degrees : T (degreesOk (num n) e)
-  pub few : size (degreesOf e) (num n) ≤ 2048
+  pub shape : DegreesIn n e
 
 -- the towers that p, N and the degrees allow, and their words
 abbrev pub TowerOf : ℤ → ℤ → List ℤ → Type 0
@@ -53,7 +58,7 @@ at-most-four (pos m) h = leb→le m 4 (both-r (leb 0 m) _ h)
 module _ (p n : ℤ) (e : List ℤ) (r : InRange p n e) where
   degree-two : (k : ℕ) → k < 4 → k < num n → 2 ≤ num (getD e k (pos 0))
   degree-two k q l =
-      let test = allTo-use 4 (λ j. degreeIn (ltb j (num n)) (getD e j (pos 0))) (r .degrees) k q in
+      let test = allTo-use 4 (λ j. degreeIn (ltb j (num n)) (getD e j (pos 0))) (r .shape .degrees) k q in
       at-least-two (getD e k (pos 0)) (subst (λ x. T (degreeIn x (getD e k (pos 0)))) (to-true (ltb k (num n)) (lt→ltb k (num n) l)) test)
 
   degree-at : (k : ℕ) → k < num n → 2 ≤ getD (degreesOf e) k 0
@@ -61,7 +66,7 @@ module _ (p n : ℤ) (e : List ℤ) (r : InRange p n e) where
   degree-at (suc zero) l = degree-two 1 (omega arith) l
   degree-at (suc (suc zero)) l = degree-two 2 (omega arith) l
   degree-at (suc (suc (suc zero))) l = degree-two 3 (omega arith) l
-  degree-at (suc (suc (suc (suc k)))) l = absurd (lt-irrefl 0 (omega (arith, at-most-four n (r .levels))))
+  degree-at (suc (suc (suc (suc k)))) l = absurd (lt-irrefl 0 (omega (arith, at-most-four n (r .shape .levels))))
 
   pub ones : Ones (num p) (p-positive p (r .modulus)) (degreesOf e) (num n)
   ones = record { p-two = p-two p (r .modulus); degrees = λ k l. (let h = degree-at k l in omega arith) }
@@ -81,7 +86,7 @@ pub record TowerHeld (p n : ℤ) (e t : List ℤ) : Type 0 where
 -- 2: p is in range, but N or the degrees are not
 pub record DegreesOut (p n : ℤ) (e : List ℤ) : Type 0 where
   pub modulus : T (pOk p)
-  pub out : ¬ InRange p n e
+  pub out : ¬ DegreesIn n e
 
 -- 3: all is in range, and no tower has these words
 pub record NoTower (p n : ℤ) (e t : List ℤ) : Type 0 where
@@ -94,6 +99,17 @@ TowerMeans p n e t (suc zero) = T (not (pOk p))
 TowerMeans p n e t (suc (suc zero)) = DegreesOut p n e
 TowerMeans p n e t (suc (suc (suc zero))) = NoTower p n e t
 TowerMeans p n e t (suc (suc (suc (suc k)))) = ⊥
+
+-- N or the degrees: the first of the three tests that does not pass
+pub shape-out : (n : ℤ) (e : List ℤ) (rows : Table) → ¬ DegreesIn n e → Applies (shapeTable n e ++ rows) 2
+shape-out n e rows h =
+    branch (levelsOk n)
+    (λ a. branch (degreesOk (num n) e)
+    (λ b. branch (sizeOk (degreesOf e) (num n))
+    (λ c. absurd (h (record { levels = a; degrees = b; few = size-few (degreesOf e) (num n) c })))
+    (λ c. inr (a, inr (b, inl (c, refl)))))
+    (λ b. inr (a, inl (b, refl))))
+    (λ a. inl (a, refl))
 
 module _ (p n : ℤ) (e t : List ℤ) where
   pub tower-numbered : Numbered (towerTable p n e t)
@@ -109,7 +125,7 @@ module _ (p n : ℤ) (e t : List ℤ) where
   applied k (inr (a, inr (b, inr (c, inl h)))) =
       subst (TowerMeans p n e t) (h .1) (record { modulus = a; out = λ r. T-not (sizeOk (degreesOf e) (num n)) (h .0) (few-size (degreesOf e) (num n) (r .few)) })
   applied k (inr (a, inr (b, inr (c, inr (d, inl h))))) =
-      let r : InRange p n e = record { modulus = a; levels = b; degrees = c; few = size-few (degreesOf e) (num n) d } in
+      let r : InRange p n e = record { modulus = a; shape = record { levels = b; degrees = c; few = size-few (degreesOf e) (num n) d } } in
       subst (TowerMeans p n e t) (h .1) (record { range = r; none = no-tower r (h .0) })
   applied k (inr (a, inr (b, inr (c, inr (d, inr (f, none)))))) = absurd none
 
@@ -118,33 +134,25 @@ module _ (p n : ℤ) (e t : List ℤ) where
   unfolding towerNumber
   tower-says zero h =
       let a = passed-of (towerTable p n e t) tower-numbered h in
-      let r : InRange p n e = record { modulus = a .0; levels = a .1 .0; degrees = a .1 .1 .0; few = size-few (degreesOf e) (num n) (a .1 .1 .1 .0) } in
+      let r : InRange p n e = record { modulus = a .0; shape = record { levels = a .1 .0; degrees = a .1 .1 .0; few = size-few (degreesOf e) (num n) (a .1 .1 .1 .0) } } in
       record { range = r; held = form-held p n e r t .0 (a .1 .1 .1 .1 .0) }
   tower-says (suc k) h = applied (suc k) (first-applies (towerTable p n e t) k h)
 
-  -- N or the degrees: the first of the three tests that does not pass
   out-of : DegreesOut p n e → Applies (towerTable p n e t) 2
-  out-of h =
-      branch (levelsOk n)
-      (λ a. branch (degreesOk (num n) e)
-      (λ b. branch (sizeOk (degreesOf e) (num n))
-      (λ c. absurd (h .out (record { modulus = h .modulus; levels = a; degrees = b; few = size-few (degreesOf e) (num n) c })))
-      (λ c. inr (h .modulus, inr (a, inr (b, inl (c, refl))))))
-      (λ b. inr (h .modulus, inr (a, inl (b, refl)))))
-      (λ a. inr (h .modulus, inl (a, refl)))
+  out-of h = inr (h .modulus, shape-out n e (towerRow p n e t ∷ []) (h .out))
 
   -- under its condition a number is given
   pub tower-given : (k : ℕ) → TowerMeans p n e t k → towerNumber p n e t ≡ k
   unfolding towerNumber
   tower-given zero h =
       let r = h .range in
-      first-of (towerTable p n e t) (r .modulus, (r .levels, (r .degrees, (few-size (degreesOf e) (num n) (r .few), (form-held p n e r t .1 (h .held), tt)))))
+      first-of (towerTable p n e t) (r .modulus, (r .shape .levels, (r .shape .degrees, (few-size (degreesOf e) (num n) (r .shape .few), (form-held p n e r t .1 (h .held), tt)))))
   tower-given (suc zero) h = first-is (towerTable p n e t) 1 (inl (h, refl))
   tower-given (suc (suc zero)) h = first-is (towerTable p n e t) 2 (out-of h)
   tower-given (suc (suc (suc zero))) h =
       let r = h .range in
       let bad = not-T (towerForm (num p) (degreesOf e) (num n) t) (λ f. (let x = form-held p n e r t .0 f in h .none (x .this) (x .holds))) in
-      first-is (towerTable p n e t) 3 (inr (r .modulus, inr (r .levels, inr (r .degrees, inr (few-size (degreesOf e) (num n) (r .few), inl (bad, refl))))))
+      first-is (towerTable p n e t) 3 (inr (r .modulus, inr (r .shape .levels, inr (r .shape .degrees, inr (few-size (degreesOf e) (num n) (r .shape .few), inl (bad, refl))))))
 
   -- the same of what the call says
   pub tower-answers : (k : ℕ) → (checkTower p n e t ≡ refusal k) ↔ TowerMeans p n e t k

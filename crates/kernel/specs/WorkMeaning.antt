@@ -1,30 +1,24 @@
 -- What the numbers 0, 2 and 5 say of the work sizes, and what the call gives with them.
 --
--- DegreesIn n e  == N and the degrees are in range
 -- WorkMeans      == for each number what it says; a number that is not used says ⊥
 -- work-says      == a number that is given comes under its condition;  work-given == and under its condition it is given
 -- work-answers   == the same of what the call says;  work-gives == where no number is given it gives the formulas' three
-use Prim.Native.Nat.{ℕ, zero, suc, _≤_}
+use Prim.Native.Nat.{ℕ, zero, suc}
 use mathlib.Core.Path.{_≡_, refl, sym, ap, _∙_, subst}
 use mathlib.Core.Bool.{_&&_}
 use mathlib.Core.Logic.{_↔_, inl, inr}
-use mathlib.Core.List.{List}
+use mathlib.Core.List.{List, [], _∷_}
 use native.Mathlib.Omega.{arith}
 use lib.IntN.{ℤ}
 use lib.Dec.{T, T-not, not-T}
-use Rattle.algebra.specs.Test.{branch, both, both-l, both-r}
+use Rattle.algebra.specs.Test.{both, both-l, both-r}
 use Rattle.residue.specs.Word.{num}
-use Rattle.tower.specs.Writing.{size, countOf}
+use Rattle.tower.specs.Writing.{countOf}
 use Rattle.tower.specs.Limits.{levelsOk, degreesOk, degreesOf, sizeOk, size-few, few-size, workDegree}
 use Rattle.tower.specs.Work.{productWork, inverseWork, gcdWork}
 use Rattle.kernel.specs.Refusals.{done, refusal, refusal-inj, Numbered, passed-of, first-of, Applies, first-applies, first-is}
-use Rattle.kernel.specs.Calls.{Sizes, workTable, workNumber, sizesBy, workSizes}
-
--- N and the degrees are in range
-pub record DegreesIn (n : ℤ) (e : List ℤ) : Type 0 where
-  pub levels : T (levelsOk n)
-  pub degrees : T (degreesOk (num n) e)
-  pub few : size (degreesOf e) (num n) ≤ 2048
+use Rattle.kernel.specs.Meaning.{DegreesIn, shape-out}
+use Rattle.kernel.specs.Calls.{Sizes, degreesRow, workTable, workNumber, sizesBy, workSizes}
 
 -- 0: all is in range, the degrees of a and b too
 pub record WorkHeld (n : ℤ) (e : List ℤ) (a b : ℤ) : Type 0 where
@@ -72,21 +66,12 @@ module _ (n : ℤ) (e : List ℤ) (a b : ℤ) where
       }
   work-says (suc k) h = applied (suc k) (first-applies (workTable n e a b) k h)
 
-  -- N or the degrees: the first of the three tests that does not pass
-  out-of : ¬ DegreesIn n e → Applies (workTable n e a b) 2
-  out-of h =
-      branch (levelsOk n)
-      (λ x. branch (degreesOk (num n) e)
-      (λ y. branch (sizeOk (degreesOf e) (num n)) (λ z. absurd (h (record { levels = x; degrees = y; few = size-few (degreesOf e) (num n) z }))) (λ z. inr (x, inr (y, inl (z, refl)))))
-      (λ y. inr (x, inl (y, refl))))
-      (λ x. inl (x, refl))
-
   pub work-given : (k : ℕ) → WorkMeans n e a b k → workNumber n e a b ≡ k
   unfolding workNumber
   work-given zero h =
       let r = h .range in
       first-of (workTable n e a b) (r .levels, (r .degrees, (few-size (degreesOf e) (num n) (r .few), (both (workDegree a) (workDegree b) (h .a-in) (h .b-in), tt))))
-  work-given (suc (suc zero)) h = first-is (workTable n e a b) 2 (out-of h)
+  work-given (suc (suc zero)) h = first-is (workTable n e a b) 2 (shape-out n e (degreesRow a b ∷ []) h)
   work-given (suc (suc (suc (suc (suc zero))))) h =
       let r = h .range in
       let bad = not-T (workDegree a && workDegree b) (λ t. h .out (both-l (workDegree a) (workDegree b) t) (both-r (workDegree a) (workDegree b) t)) in

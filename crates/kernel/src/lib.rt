@@ -1,5 +1,5 @@
 // The public calls. None has a `requires`: what a call cannot do it refuses, by the first number of document 01's table that applies. What each gives is in
-// specs/Calls.antt, and the promises cite it by name (specs/Promises.antt).
+// specs/Calls.antt and specs/Sums.antt, and the promises cite it by name (specs/Promises.antt). The modules are private: what stands in them is no call.
 mod fractions;
 mod numbers;
 mod sums;
@@ -17,7 +17,6 @@ use numbers::tower_number;
 use numbers::work_number;
 use sums::gained;
 use tower::limits::p_ok;
-use tower::words::as_p;
 use tower::words::count;
 use tower::work::gcd_work;
 use tower::work::inverse_work;
@@ -102,7 +101,7 @@ pub fn residue_of_fraction(p: i64, n: i64, e: i64) -> FractionResidue
     if e <= 0 {
         return no_fraction(NO_RESIDUE);
     }
-    quotient(n, residue::number(e), as_p(p))
+    quotient(n, residue::number(e), residue::number(p))
 }
 
 // Sum: a + b, which replaces a. Refuses 1 to 6. Writes a's slot, the whole of it after Done and nothing when refused.

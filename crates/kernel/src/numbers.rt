@@ -22,7 +22,6 @@ use tower::sizes::degrees;
 use tower::sizes::size_at;
 use tower::sizes::sizes;
 use tower::sizes::tower_size;
-use tower::words::as_p;
 use tower::words::nat;
 
 // The numbers by name, as specs/Refusals.antt has them.
@@ -133,7 +132,7 @@ pub fn tower_number(p: i64, n: i64, e: [i64; 4], t: &[i64]) -> usize
     if 0 < number {
         return number;
     }
-    if !tower_ok(shape_of(n, e), as_p(p), t) {
+    if !tower_ok(shape_of(n, e), residue::number(p), t) {
         return BAD_TOWER;
     }
     0
@@ -151,7 +150,7 @@ pub fn slot_number(p: i64, n: i64, e: [i64; 4], t: &[i64], a: &[i64]) -> usize
     if !slot_length(s.size, a.len()) {
         return BAD_LENGTH;
     }
-    if !slot_ok(s, as_p(p), a) {
+    if !slot_ok(s, residue::number(p), a) {
         return BAD_FORM;
     }
     0

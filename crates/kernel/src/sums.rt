@@ -20,7 +20,6 @@ use super::numbers::slot_ok;
 use super::numbers::tower_number;
 use arithmetic::sum::gain_row;
 use tower::limits::slot_length;
-use tower::words::as_p;
 use tower::words::count_at;
 
 // Both lengths are those of slots over elements of s words.
@@ -68,7 +67,7 @@ pub fn sum_number(p: i64, n: i64, e: [i64; 4], t: &[i64], a: &[i64], b: &[i64]) 
     if !lengths_ok(s.size, a.len(), b.len()) {
         return BAD_LENGTH;
     }
-    if !forms_ok(s, as_p(p), a, b) {
+    if !forms_ok(s, residue::number(p), a, b) {
         return BAD_FORM;
     }
     if !room_ok(coefficients(s.size, a.len()), a, b) {
@@ -89,6 +88,6 @@ pub fn gained(neg: bool, p: i64, n: i64, e: [i64; 4], t: &[i64], a: &mut [i64], 
     let d = s.degrees;
     let z = s.sizes;
     let k = coefficients(s.size, a.len());
-    gain_row(s.levels, k, neg, as_p(p), d, z, b, 0, a, 0);
+    gain_row(s.levels, k, neg, residue::number(p), d, z, b, 0, a, 0);
     Answer::Done
 }

@@ -10,8 +10,7 @@ use Rattle.algebra.specs.Zmod.{Residue, toZ}
 use Rattle.algebra.specs.Quotient.{oneᵛ, residue}
 use Rattle.algebra.specs.Divide.{divide}
 use Rattle.tower.specs.Levels.{El, Tower}
-use Rattle.tower.specs.Writing.{size, writes, write, slot, towerWords}
-use Rattle.tower.specs.Work.{productWork, inverseWork, gcdWork}
+use Rattle.tower.specs.Writing.{writes, write, slot, towerWords}
 
 abbrev seven : ℕ → Residue 7
 seven = toZ 7 (lit< tt)
@@ -39,25 +38,13 @@ pub record Figures : Type 0 where
   pub example-slot : slot 17 (3 ∷ 2 ∷ []) 2 3 (e (c 3 4 0) (c 5 6 0), (e (c 7 8 9) (c 0 10 11), (e (c 12 0 0) (c 0 0 0), tt)))
       ≡ pos 2 ∷ pos 1 ∷ pos 1 ∷ pos 3 ∷ pos 4 ∷ pos 0 ∷ pos 1 ∷ pos 5 ∷ pos 6 ∷ pos 0 ∷ pos 1 ∷ pos 2 ∷ pos 7 ∷ pos 8 ∷ pos 9 ∷ pos 2 ∷ pos 0 ∷ pos 10 ∷ pos 11
       ∷ pos 0 ∷ pos 0 ∷ pos 12 ∷ pos 0 ∷ pos 0 ∷ negsuc 0 ∷ pos 0 ∷ pos 0 ∷ pos 0 ∷ []
-  -- "For d = (3, 2): S = 1, 4, 9; M(2) = 38, I(2) = 90."
-  pub s1 : size (3 ∷ 2 ∷ []) 1 ≡ 4
-  pub s2 : size (3 ∷ 2 ∷ []) 2 ≡ 9
-  pub m2 : productWork (3 ∷ 2 ∷ []) 2 ≡ 38
-  pub i2 : inverseWork (3 ∷ 2 ∷ []) 2 ≡ 90
-  -- degrees 2 and 1: 28 + 19 + 18 + 90
-  pub g2 : gcdWork (3 ∷ 2 ∷ []) 2 3 2 ≡ 155
 
 pub figures : Figures
-unfolding write writes towerWords size oneᵛ residue divide productWork inverseWork gcdWork
+unfolding write writes towerWords oneᵛ residue divide
 figures = record {
   zero-1 = refl;
   c6 = refl;
   t7 = refl;
   example-tower = refl;
   example-slot = refl;
-  s1 = refl;
-  s2 = refl;
-  m2 = refl;
-  i2 = refl;
-  g2 = refl;
 }

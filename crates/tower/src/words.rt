@@ -49,10 +49,3 @@ pub fn count_at(x: &[i64], a: usize) -> usize
 {
     count(word_at(x, a))
 }
-
-// The modulus as a number.
-pub fn as_p(p: i64) -> u64
-    ensures { λ r. ⌜ r ≡ num p ⌝ }
-{
-    nat(p) as u64
-}

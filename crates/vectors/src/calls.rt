@@ -4,10 +4,8 @@
 // A list is its count and then its words. Lists that a call only reads are lent where they stand,
 // as parts of the numbers. A list that a call may change needs a store of its own, since two parts
 // of one array cannot be lent to be changed at once.
-ghost use mathlib.Core.Path.{_≡_};
 ghost use Prim.Native.Nat.{_+_, _<_, _≤_};
-ghost use lib.ListN.{length, getD};
-ghost use lib.IntN.{pos};
+ghost use lib.ListN.{length};
 ghost use Rattle.vectors.specs.Within.{Within};
 use crate::field::Call;
 use crate::output::Output;
@@ -15,6 +13,7 @@ use crate::output::put;
 use crate::output::put_number;
 use crate::output::put_words;
 use kernel::Answer;
+use tower::words::word_at;
 
 // The words that a list can have which a call may change: more than the longest slot has, so that
 // a slot that is too long reaches the call.
@@ -26,13 +25,6 @@ struct Part {
     start: usize,
     end: usize,
     whole: bool,
-}
-
-fn word_at(numbers: &[i64], i: usize) -> i64
-    requires { ⌜ i < length (now numbers) ⌝ }
-    ensures { λ r. ⌜ r ≡ getD (now (numbers .entry)) i (pos 0) ⌝ }
-{
-    numbers[i]
 }
 
 fn missing(numbers: &[i64]) -> Part

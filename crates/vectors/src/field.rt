@@ -102,19 +102,12 @@ fn value(digits: &[u8]) -> Digits
     Digits::Value(sum)
 }
 
-fn word(n: u64) -> i64
-    requires { ⌜ n < 2 ^ 63 ⌝ }
-    ensures { λ r. ⌜ r ≡ pos n ⌝ }
-{
-    n as i64
-}
-
 // n below zero; no step leaves the signed range, even for -2^63.
 fn minus(n: u64) -> i64
     requires { ⌜ (0 < n) × (n ≤ 2 ^ 63) ⌝ }
     ensures { λ r. ⌜ r ≡ negsuc (n - 1) ⌝ }
 {
-    -1 - word(n - 1)
+    -1 - residue::word(n - 1)
 }
 
 fn plain(digits: &[u8]) -> Number
@@ -124,7 +117,7 @@ fn plain(digits: &[u8]) -> Number
         return Number::Not;
     };
     if n < 9223372036854775808 {
-        return Number::Is(word(n));
+        return Number::Is(residue::word(n));
     }
     Number::Not
 }

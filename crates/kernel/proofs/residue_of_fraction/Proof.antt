@@ -15,7 +15,6 @@ use Rattle.kernel.proofs.fractions.no_fraction.Reads as no-fraction-rea
 use Rattle.kernel.proofs.fractions.quotient.Reads as quotient-reads
 use Rattle.residue.proofs.number.Reads as number-reads
 use Rattle.tower.proofs.limits.p_ok.Reads as p-ok-reads
-use Rattle.tower.proofs.words.as_p.Reads as as-p-reads
 
 p-ok-requires : tie.Need-p-ok-requires
 p-ok-requires c κs = search needs
@@ -47,16 +46,16 @@ returns-2 c =
 number-requires : tie.Need-number-requires
 number-requires c κs = search needs
 
-as-p-requires : tie.Need-as-p-requires
-as-p-requires c κs = search needs
+number-requires-2 : tie.Need-number-requires-2
+number-requires-2 c κs = search needs
 
 quotient-requires : tie.Need-quotient-requires
 quotient-requires c κs =
     let s = c .before .before .before .before .before in
     let p-ok = c .before .before .before .before .p-ok in
     let if1 = c .before .before .before .if1 in
-    let as-p = c .as-p in
-    p-range (s .args .p) (as-p .result) (as-p .ensures ∙ of-word num (s .fits .p)) (told pOk (s .fits .p) (p-ok .ensures) (not-false _ (if1 .left)))
+    let number2 = c .number2 in
+    p-range (s .args .p) (number2 .result) (number2 .ensures ∙ of-word num (s .fits .p)) (told pOk (s .fits .p) (p-ok .ensures) (not-false _ (if1 .left)))
 
 returns-3 : tie.Need-returns-3
 returns-3 c =
@@ -65,11 +64,11 @@ returns-3 c =
     let if1 = c .before .before .before .before .if1 in
     let if2 = c .before .before .before .if2 in
     let number = c .before .before .number in
-    let as-p = c .before .as-p in
+    let number2 = c .before .number2 in
     let quotient = c .quotient in
     fraction-found (s .args .p) (s .args .n) (s .args .e) (of-true _ (told pOk (s .fits .p) (p-ok .ensures) (not-false _ (if1 .left))))
     (e-told (s .fits .e) false (if2 .left)) (quotient .result)
-    (quotient-plain (quotient .result) (s .fits .n) (number .ensures ∙ of-word num (s .fits .e)) (as-p .ensures ∙ of-word num (s .fits .p)) (quotient .ensures))
+    (quotient-plain (quotient .result) (s .fits .n) (number .ensures ∙ of-word num (s .fits .e)) (number2 .ensures ∙ of-word num (s .fits .p)) (quotient .ensures))
 
 pub residue-of-fraction-spec : {M : Type 1} → statement M
 residue-of-fraction-spec =
@@ -81,6 +80,6 @@ residue-of-fraction-spec =
     no-fraction-requires-2
     returns-2
     number-requires
-    as-p-requires
+    number-requires-2
     quotient-requires
     returns-3)

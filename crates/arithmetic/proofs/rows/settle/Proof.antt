@@ -8,9 +8,6 @@ use Rattle.arithmetic.proofs.rows.settle.Lts as lts
 use Rattle.arithmetic.proofs.rows.put_degree.Reads as put-degree-reads
 use Rattle.arithmetic.proofs.rows.top_of.Reads as top-of-reads
 
-add-top-of : tie.Need-add-top-of
-add-top-of c = search needs
-
 top-of-requires : tie.Need-top-of-requires
 top-of-requires c κs = search needs
 
@@ -32,4 +29,4 @@ returns c =
 
 pub settle-spec : {M : Type 1} → statement M
 settle-spec =
-    tie.close (tie.spec add-top-of top-of-requires put-degree-requires same-length returns)
+    tie.close (tie.spec top-of-requires put-degree-requires same-length returns)

@@ -1,18 +1,18 @@
 use mathlib.Core.Path.{_≡_, sym, _∙_}
 use borrow.Author.Tests.{not-true, not-false}
 use Rattle.arithmetic.proofs.Tops.{ZeroFrom, zero-start, top-none, down-fits, top-down, zero-down}
-use Prim.Native.Nat.{_≤_}
+use Prim.Native.Nat.{_+_, _≤_}
 use native.Mathlib.Omega.{arith}
 use borrow.Author.Needs.{needs}
 use Rattle.arithmetic.proofs.rows.top_of.Statement.{statement}
 use Rattle.arithmetic.proofs.rows.top_of.Tie as tie
 use Rattle.arithmetic.proofs.rows.top_of.Reads as reads
 use Rattle.arithmetic.proofs.rows.top_of.Lts as lts
-use Rattle.arithmetic.proofs.rows.place.Reads as place-reads
+use Rattle.tower.proofs.form.coefficient_at.Reads as coefficient-at-reads
 use Rattle.tower.proofs.store.is_zero.Reads as is-zero-reads
 
 abbrev Inv-loop : tie.InvT-loop
-Inv-loop i n s w at k₀ k = (k ≤ n) × ZeroFrom i n s w at k
+Inv-loop i n s w at k₀ k = (k ≤ n) × ZeroFrom i n s w (at + 1) k
 
 abbrev μ-loop : tie.MeasureT-loop
 μ-loop i n s w at k₀ k = k
@@ -20,13 +20,13 @@ abbrev μ-loop : tie.MeasureT-loop
 loop-holds : tie.Need-loop-holds Inv-loop μ-loop
 loop-holds c =
     let s = c in
-    (omega arith, zero-start (s .args .i) (s .args .n) (s .args .s) (s .args .w .now) (s .args .at))
+    (omega arith, zero-start (s .args .i) (s .args .n) (s .args .s) (s .args .w .now) (s .args .at + 1))
 
-sub-place : tie.Need-sub-place Inv-loop μ-loop
-sub-place c = search needs
+sub-coefficient-at : tie.Need-sub-coefficient-at Inv-loop μ-loop
+sub-coefficient-at c = search needs
 
-place-requires : tie.Need-place-requires Inv-loop μ-loop
-place-requires c κs =
+coefficient-at-requires : tie.Need-coefficient-at-requires Inv-loop μ-loop
+coefficient-at-requires c κs =
     let s = c .before .before in
     let loop = c .before .loop in
     let loop-test = c .loop-test in
@@ -37,15 +37,15 @@ is-zero-requires c κs =
     let s = c .before .before .before in
     let loop = c .before .before .loop in
     let loop-test = c .before .loop-test in
-    let place = c .place in
-    omega (arith, s .pre .0, s .pre .1, place .ensures, down-fits (loop .k) (s .args .n) (s .args .s) (loop-test .taken) (loop .inv .0))
+    let coefficient-at = c .coefficient-at in
+    omega (arith, s .pre .0, s .pre .1, coefficient-at .ensures, down-fits (loop .k) (s .args .n) (s .args .s) (loop-test .taken) (loop .inv .0))
 
 returns : tie.Need-returns Inv-loop μ-loop
 returns c =
     let s = c .before .before .before .before .before in
     let loop = c .before .before .before .before .loop in
     let loop-test = c .before .before .before .loop-test in
-    let place = c .before .before .place in
+    let coefficient-at = c .before .before .coefficient-at in
     let is-zero = c .before .is-zero in
     let if1 = c .if1 in (
       top-down
@@ -53,12 +53,12 @@ returns c =
           (s .args .n)
           (s .args .s)
           (s .args .w .now)
-          (s .args .at)
+          (s .args .at + 1)
           (loop .k)
-          (place .result)
+          (coefficient-at .result)
           (loop-test .taken)
           (loop .inv .0)
-          (place .ensures)
+          (coefficient-at .ensures)
           (loop .inv .1)
           (sym (is-zero .ensures) ∙ not-true _ (if1 .taken)),
       loop .inv .0,
@@ -75,7 +75,7 @@ loop-again c =
     let s = c .before .before .before .before .before in
     let loop = c .before .before .before .before .loop in
     let loop-test = c .before .before .before .loop-test in
-    let place = c .before .before .place in
+    let coefficient-at = c .before .before .coefficient-at in
     let is-zero = c .before .is-zero in
     let if1 = c .if1 in (
       omega arith,
@@ -84,12 +84,12 @@ loop-again c =
           (s .args .n)
           (s .args .s)
           (s .args .w .now)
-          (s .args .at)
+          (s .args .at + 1)
           (loop .k)
-          (place .result)
+          (coefficient-at .result)
           (loop-test .taken)
           (loop .inv .0)
-          (place .ensures)
+          (coefficient-at .ensures)
           (loop .inv .1)
           (sym (is-zero .ensures) ∙ not-false _ (if1 .left)),
     )
@@ -99,7 +99,7 @@ returns-2 c =
     let s = c .before .before in
     let loop = c .before .loop in
     let e : loop .k ≡ 0 = omega arith in
-    (top-none (s .args .i) (s .args .n) (s .args .s) (s .args .w .now) (s .args .at) (rw e at (loop .inv .1)), omega arith)
+    (top-none (s .args .i) (s .args .n) (s .args .s) (s .args .w .now) (s .args .at + 1) (rw e at (loop .inv .1)), omega arith)
 
 pub top-of-spec : {M : Type 1} → statement M
 top-of-spec =
@@ -108,8 +108,8 @@ top-of-spec =
     Inv-loop
     μ-loop
     loop-holds
-    sub-place
-    place-requires
+    sub-coefficient-at
+    coefficient-at-requires
     is-zero-requires
     returns
     sub-k

@@ -18,7 +18,7 @@ use Rattle.kernel.proofs.numbers.shape_of.Reads as shape-of-reads
 use Rattle.kernel.proofs.numbers.slot_ok.Reads as slot-ok-reads
 use Rattle.kernel.proofs.numbers.tower_number.Reads as tower-number-reads
 use Rattle.tower.proofs.limits.slot_length.Reads as slot-length-reads
-use Rattle.tower.proofs.words.as_p.Reads as as-p-reads
+use Rattle.residue.proofs.number.Reads as number-reads
 
 tower-number-requires : tie.Need-tower-number-requires
 tower-number-requires c κs = search needs
@@ -55,8 +55,8 @@ returns-2 c =
     (tower-number .result) (tower-number .ensures) (if1 .left) (sym (slot-length .ensures) ∙ not-true _ (if2 .taken))
     ∙ of-words (λ x y. slotNumber x y (s .args .e) (s .args .t .now) (s .args .a .now)) (s .fits .p) (s .fits .n)
 
-as-p-requires : tie.Need-as-p-requires
-as-p-requires c κs = search needs
+number-requires : tie.Need-number-requires
+number-requires c κs = search needs
 
 slot-ok-requires : tie.Need-slot-ok-requires
 slot-ok-requires c κs =
@@ -73,11 +73,11 @@ returns-3 c =
     let shape-of = c .before .before .before .before .before .shape-of in
     let slot-length = c .before .before .before .before .slot-length in
     let if2 = c .before .before .before .if2 in
-    let as-p = c .before .before .as-p in
+    let number = c .before .before .number in
     let slot-ok = c .before .slot-ok in
     let if3 = c .if3 in
     ap (λ b. unless b 5 0) (sym (not-true (slot-ok .result) (if3 .taken)))
-    ∙ slot-answered (toZ w64 (ofZ w64 (s .args .p))) _ (s .args .e) (shape-of .result) (shape-of .ensures) (as-p .result) (as-p .ensures)
+    ∙ slot-answered (toZ w64 (ofZ w64 (s .args .p))) _ (s .args .e) (shape-of .result) (shape-of .ensures) (number .result) (number .ensures)
     (s .args .t .now) (s .args .a .now) (tower-number .result) (tower-number .ensures) (if1 .left)
     (sym (slot-length .ensures) ∙ not-false _ (if2 .left)) (slot-ok .result) (slot-ok .ensures)
     ∙ of-words (λ x y. slotNumber x y (s .args .e) (s .args .t .now) (s .args .a .now)) (s .fits .p) (s .fits .n)
@@ -90,11 +90,11 @@ returns-4 c =
     let shape-of = c .before .before .before .before .before .shape-of in
     let slot-length = c .before .before .before .before .slot-length in
     let if2 = c .before .before .before .if2 in
-    let as-p = c .before .before .as-p in
+    let number = c .before .before .number in
     let slot-ok = c .before .slot-ok in
     let if3 = c .if3 in
     ap (λ b. unless b 5 0) (sym (not-false (slot-ok .result) (if3 .left)))
-    ∙ slot-answered (toZ w64 (ofZ w64 (s .args .p))) _ (s .args .e) (shape-of .result) (shape-of .ensures) (as-p .result) (as-p .ensures)
+    ∙ slot-answered (toZ w64 (ofZ w64 (s .args .p))) _ (s .args .e) (shape-of .result) (shape-of .ensures) (number .result) (number .ensures)
     (s .args .t .now) (s .args .a .now) (tower-number .result) (tower-number .ensures) (if1 .left)
     (sym (slot-length .ensures) ∙ not-false _ (if2 .left)) (slot-ok .result) (slot-ok .ensures)
     ∙ of-words (λ x y. slotNumber x y (s .args .e) (s .args .t .now) (s .args .a .now)) (s .fits .p) (s .fits .n)
@@ -108,7 +108,7 @@ slot-number-spec =
     shape-of-requires
     slot-length-requires
     returns-2
-    as-p-requires
+    number-requires
     slot-ok-requires
     returns-3
     returns-4)

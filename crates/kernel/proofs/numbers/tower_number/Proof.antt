@@ -15,7 +15,7 @@ use Rattle.kernel.proofs.numbers.tower_number.Lts as lts
 use Rattle.kernel.proofs.numbers.base_number.Reads as base-number-reads
 use Rattle.kernel.proofs.numbers.shape_of.Reads as shape-of-reads
 use Rattle.kernel.proofs.numbers.tower_ok.Reads as tower-ok-reads
-use Rattle.tower.proofs.words.as_p.Reads as as-p-reads
+use Rattle.residue.proofs.number.Reads as number-reads
 
 base-number-requires : tie.Need-base-number-requires
 base-number-requires c κs = search needs
@@ -35,8 +35,8 @@ shape-of-requires c κs =
     let if1 = c .if1 in
     shape-zero _ _ (s .args .e) (base .result) (base .ensures) (if1 .left)
 
-as-p-requires : tie.Need-as-p-requires
-as-p-requires c κs = search needs
+number-requires : tie.Need-number-requires
+number-requires c κs = search needs
 
 tower-ok-requires : tie.Need-tower-ok-requires
 tower-ok-requires c κs = search needs
@@ -47,11 +47,11 @@ returns-2 c =
     let base = c .before .before .before .before .before .base-number in
     let if1 = c .before .before .before .before .if1 in
     let shape-of = c .before .before .before .shape-of in
-    let as-p = c .before .before .as-p in
+    let number = c .before .before .number in
     let tower-ok = c .before .tower-ok in
     let if2 = c .if2 in
     ap (λ b. unless b 3 0) (sym (not-true (tower-ok .result) (if2 .taken)))
-    ∙ tower-answered (toZ w64 (ofZ w64 (s .args .p))) _ (s .args .e) (shape-of .result) (shape-of .ensures) (as-p .result) (as-p .ensures)
+    ∙ tower-answered (toZ w64 (ofZ w64 (s .args .p))) _ (s .args .e) (shape-of .result) (shape-of .ensures) (number .result) (number .ensures)
     (s .args .t .now) (base .result) (base .ensures) (if1 .left) (tower-ok .result) (tower-ok .ensures)
     ∙ of-words (λ x y. towerNumber x y (s .args .e) (s .args .t .now)) (s .fits .p) (s .fits .n)
 
@@ -61,11 +61,11 @@ returns-3 c =
     let base = c .before .before .before .before .before .base-number in
     let if1 = c .before .before .before .before .if1 in
     let shape-of = c .before .before .before .shape-of in
-    let as-p = c .before .before .as-p in
+    let number = c .before .before .number in
     let tower-ok = c .before .tower-ok in
     let if2 = c .if2 in
     ap (λ b. unless b 3 0) (sym (not-false (tower-ok .result) (if2 .left)))
-    ∙ tower-answered (toZ w64 (ofZ w64 (s .args .p))) _ (s .args .e) (shape-of .result) (shape-of .ensures) (as-p .result) (as-p .ensures)
+    ∙ tower-answered (toZ w64 (ofZ w64 (s .args .p))) _ (s .args .e) (shape-of .result) (shape-of .ensures) (number .result) (number .ensures)
     (s .args .t .now) (base .result) (base .ensures) (if1 .left) (tower-ok .result) (tower-ok .ensures)
     ∙ of-words (λ x y. towerNumber x y (s .args .e) (s .args .t .now)) (s .fits .p) (s .fits .n)
 
@@ -76,7 +76,7 @@ tower-number-spec =
     base-number-requires
     returns
     shape-of-requires
-    as-p-requires
+    number-requires
     tower-ok-requires
     returns-2
     returns-3)

@@ -11,7 +11,7 @@ use Rattle.arithmetic.proofs.sum.gain_row.Reads as gain-row-reads
 use Rattle.kernel.proofs.numbers.coefficients.Reads as coefficients-reads
 use Rattle.kernel.proofs.numbers.shape_of.Reads as shape-of-reads
 use Rattle.kernel.proofs.sums.sum_number.Reads as sum-number-reads
-use Rattle.tower.proofs.words.as_p.Reads as as-p-reads
+use Rattle.residue.proofs.number.Reads as number-reads
 
 sum-number-requires : tie.Need-sum-number-requires
 sum-number-requires c κs = search needs
@@ -57,8 +57,8 @@ coefficients-requires c κs =
           (if1 .left),
     )
 
-as-p-requires : tie.Need-as-p-requires
-as-p-requires c κs = search needs
+number-requires : tie.Need-number-requires
+number-requires c κs = search needs
 
 gain-row-requires : tie.Need-gain-row-requires
 gain-row-requires c κs =
@@ -67,9 +67,9 @@ gain-row-requires c κs =
     let if1 = c .before .before .before .before .before .before .if1 in
     let shape-of = c .before .before .before .before .before .shape-of in
     let coefficients = c .before .before .coefficients in
-    let as-p = c .before .as-p in
+    let number = c .before .number in
     call-terms (toZ w64 (ofZ w64 (s .args .p))) (toZ w64 (ofZ w64 (s .args .n))) (s .args .e) (s .args .t .now) (s .args .a .now) (s .args .b .now)
-    (sum-number .result) (sum-number .ensures) (if1 .left) (shape-of .result) (shape-of .ensures) (as-p .result) (as-p .ensures)
+    (sum-number .result) (sum-number .ensures) (if1 .left) (shape-of .result) (shape-of .ensures) (number .result) (number .ensures)
     (coefficients .result) (coefficients .ensures)
 
 same-length-2 : tie.Need-same-length-2
@@ -79,12 +79,12 @@ same-length-2 c =
     let if1 = c .before .before .before .before .before .before .before .before .if1 in
     let shape-of = c .before .before .before .before .before .before .before .shape-of in
     let coefficients = c .before .before .before .before .coefficients in
-    let as-p = c .before .before .before .as-p in
+    let number = c .before .before .before .number in
     let gain-row = c .before .gain-row in
     row-long _ _ _ _ _ (s .args .neg) _ _ _ _ _
     (call-terms
     (toZ w64 (ofZ w64 (s .args .p))) (toZ w64 (ofZ w64 (s .args .n))) (s .args .e) (s .args .t .now) (s .args .a .now) (s .args .b .now)
-    (sum-number .result) (sum-number .ensures) (if1 .left) (shape-of .result) (shape-of .ensures) (as-p .result) (as-p .ensures)
+    (sum-number .result) (sum-number .ensures) (if1 .left) (shape-of .result) (shape-of .ensures) (number .result) (number .ensures)
     (coefficients .result)
     (coefficients .ensures))
     (gain-row .ensures)
@@ -96,7 +96,7 @@ returns-2 c =
     let if1 = c .before .before .before .before .before .before .before .before .if1 in
     let shape-of = c .before .before .before .before .before .before .before .shape-of in
     let coefficients = c .before .before .before .before .coefficients in
-    let as-p = c .before .before .before .as-p in
+    let number = c .before .before .before .number in
     let gain-row = c .before .gain-row in
     sum-plain (s .args .neg) (s .args .e) (s .args .t .now) (s .args .a .now) (s .args .b .now) _ _ (s .fits .p) (s .fits .n)
     (sum-done
@@ -104,7 +104,7 @@ returns-2 c =
     (s .args .b .now) (sum-number .result) (sum-number .ensures) (if1 .left) _
     (call-whole
     (toZ w64 (ofZ w64 (s .args .p))) (toZ w64 (ofZ w64 (s .args .n))) (s .args .e) (s .args .t .now) (s .args .a .now) (s .args .b .now)
-    (sum-number .result) (sum-number .ensures) (if1 .left) (shape-of .result) (shape-of .ensures) (as-p .result) (as-p .ensures)
+    (sum-number .result) (sum-number .ensures) (if1 .left) (shape-of .result) (shape-of .ensures) (number .result) (number .ensures)
     (coefficients .result) (coefficients .ensures) (s .args .neg) _
     (gain-row .ensures)))
 
@@ -117,7 +117,7 @@ gained-spec =
     returns
     shape-of-requires
     coefficients-requires
-    as-p-requires
+    number-requires
     gain-row-requires
     same-length-2
     returns-2)

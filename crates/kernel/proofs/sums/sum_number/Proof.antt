@@ -19,7 +19,7 @@ use Rattle.kernel.proofs.numbers.tower_number.Reads as tower-number-rea
 use Rattle.kernel.proofs.sums.forms_ok.Reads as forms-ok-reads
 use Rattle.kernel.proofs.sums.lengths_ok.Reads as lengths-ok-reads
 use Rattle.kernel.proofs.sums.room_ok.Reads as room-ok-reads
-use Rattle.tower.proofs.words.as_p.Reads as as-p-reads
+use Rattle.residue.proofs.number.Reads as number-reads
 
 tower-number-requires : tie.Need-tower-number-requires
 tower-number-requires c κs = search needs
@@ -58,8 +58,8 @@ returns-2 c =
     (not-true _ (if2 .taken))
     ∙ of-words (λ x y. sumNumber x y (s .args .e) (s .args .t .now) (s .args .a .now) (s .args .b .now)) (s .fits .p) (s .fits .n)
 
-as-p-requires : tie.Need-as-p-requires
-as-p-requires c κs = search needs
+number-requires : tie.Need-number-requires
+number-requires c κs = search needs
 
 forms-ok-requires : tie.Need-forms-ok-requires
 forms-ok-requires c κs =
@@ -78,11 +78,11 @@ returns-3 c =
     let shape-of = c .before .before .before .before .before .shape-of in
     let lengths-ok = c .before .before .before .before .lengths-ok in
     let if2 = c .before .before .before .if2 in
-    let as-p = c .before .before .as-p in
+    let number = c .before .before .number in
     let forms-ok = c .before .forms-ok in
     let if3 = c .if3 in
     sum-bad (toZ w64 (ofZ w64 (s .args .p))) _ (s .args .e) (s .args .t .now) (s .args .a .now) (s .args .b .now) (tower-number .result)
-    (tower-number .ensures) (if1 .left) (shape-of .result) (shape-of .ensures) (as-p .result) (as-p .ensures) (lengths-ok .result)
+    (tower-number .ensures) (if1 .left) (shape-of .result) (shape-of .ensures) (number .result) (number .ensures) (lengths-ok .result)
     (lengths-ok .ensures) (not-false _ (if2 .left)) (forms-ok .result) (forms-ok .ensures) (not-true _ (if3 .taken))
     ∙ of-words (λ x y. sumNumber x y (s .args .e) (s .args .t .now) (s .args .a .now) (s .args .b .now)) (s .fits .p) (s .fits .n)
 
@@ -112,7 +112,7 @@ returns-4 c =
     let shape-of = c .before .before .before .before .before .before .before .before .shape-of in
     let lengths-ok = c .before .before .before .before .before .before .before .lengths-ok in
     let if2 = c .before .before .before .before .before .before .if2 in
-    let as-p = c .before .before .before .before .before .as-p in
+    let number = c .before .before .before .before .before .number in
     let forms-ok = c .before .before .before .before .forms-ok in
     let if3 = c .before .before .before .if3 in
     let coefficients = c .before .before .coefficients in
@@ -120,7 +120,7 @@ returns-4 c =
     let if4 = c .if4 in
     ap (λ z. unless z 6 0) (sym (not-true (room-ok .result) (if4 .taken)))
     ∙ sum-end (toZ w64 (ofZ w64 (s .args .p))) _ (s .args .e) (s .args .t .now) (s .args .a .now) (s .args .b .now) (tower-number .result)
-    (tower-number .ensures) (if1 .left) (shape-of .result) (shape-of .ensures) (as-p .result) (as-p .ensures) (lengths-ok .result)
+    (tower-number .ensures) (if1 .left) (shape-of .result) (shape-of .ensures) (number .result) (number .ensures) (lengths-ok .result)
     (lengths-ok .ensures) (not-false _ (if2 .left)) (forms-ok .result) (forms-ok .ensures) (not-false _ (if3 .left)) (room-ok .result)
     (coefficients .result) (coefficients .ensures) (room-ok .ensures)
     ∙ of-words (λ x y. sumNumber x y (s .args .e) (s .args .t .now) (s .args .a .now) (s .args .b .now)) (s .fits .p) (s .fits .n)
@@ -133,7 +133,7 @@ returns-5 c =
     let shape-of = c .before .before .before .before .before .before .before .before .shape-of in
     let lengths-ok = c .before .before .before .before .before .before .before .lengths-ok in
     let if2 = c .before .before .before .before .before .before .if2 in
-    let as-p = c .before .before .before .before .before .as-p in
+    let number = c .before .before .before .before .before .number in
     let forms-ok = c .before .before .before .before .forms-ok in
     let if3 = c .before .before .before .if3 in
     let coefficients = c .before .before .coefficients in
@@ -141,7 +141,7 @@ returns-5 c =
     let if4 = c .if4 in
     ap (λ z. unless z 6 0) (sym (not-false (room-ok .result) (if4 .left)))
     ∙ sum-end (toZ w64 (ofZ w64 (s .args .p))) _ (s .args .e) (s .args .t .now) (s .args .a .now) (s .args .b .now) (tower-number .result)
-    (tower-number .ensures) (if1 .left) (shape-of .result) (shape-of .ensures) (as-p .result) (as-p .ensures) (lengths-ok .result)
+    (tower-number .ensures) (if1 .left) (shape-of .result) (shape-of .ensures) (number .result) (number .ensures) (lengths-ok .result)
     (lengths-ok .ensures) (not-false _ (if2 .left)) (forms-ok .result) (forms-ok .ensures) (not-false _ (if3 .left)) (room-ok .result)
     (coefficients .result) (coefficients .ensures) (room-ok .ensures)
     ∙ of-words (λ x y. sumNumber x y (s .args .e) (s .args .t .now) (s .args .a .now) (s .args .b .now)) (s .fits .p) (s .fits .n)
@@ -155,7 +155,7 @@ sum-number-spec =
     shape-of-requires
     lengths-ok-requires
     returns-2
-    as-p-requires
+    number-requires
     forms-ok-requires
     returns-3
     coefficients-requires
