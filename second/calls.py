@@ -22,6 +22,11 @@ def answer_of(number):
     return ("done",) if number == 0 else ("refused", number)
 
 
+def as_found(number, *lists):
+    """A refused call that gives no values: 'every lent word as found'."""
+    return answer_of(number), (), tuple(list(lent) for lent in lists)
+
+
 # The numbers 1 to 5.
 
 def modulus_out_of_range(p):
@@ -44,15 +49,27 @@ def used_degrees(levels, four_degrees):
     return tuple(four_degrees[:max(levels, 0)])
 
 
-def slot_tests(p, levels, four_degrees, slots):
-    """4 of every slot, then 5 of every slot."""
+def slot_tests(p, levels, four_degrees, inputs, answers=()):
+    """4 of every slot, answer slots too, then 5 of every input."""
     degrees = used_degrees(levels, four_degrees)
     return [
         (4, lambda: not all(words.slot_length_allowed(degrees, len(slot))
-                            for slot in slots)),
+                            for slot in [*inputs, *answers])),
         (5, lambda: not all(words.slot_in_form(p, degrees, slot)
-                            for slot in slots)),
+                            for slot in inputs)),
     ]
+
+
+# Answer slots.
+
+def coefficients_in(degrees, slot):
+    """The number k of a slot of k coefficients; its length is allowed."""
+    return (len(slot) - 1) // words.sizes(degrees)[-1]
+
+
+def rewritten(degrees, slot, f):
+    """'The whole answer slot is written, the rest of it zeros in form.'"""
+    return words.slot_to_words(degrees, f, coefficients_in(degrees, slot))
 
 
 # The calls.
@@ -72,7 +89,7 @@ def check_slot(p, levels, four_degrees, tower, slot):
 
 def room_for_sum(levels, four_degrees, a, b):
     """Whether a has 'max(deg a, deg b) + 1 coefficients'; a and b are in form."""
-    count = (len(a) - 1) // words.sizes(used_degrees(levels, four_degrees))[-1]
+    count = coefficients_in(used_degrees(levels, four_degrees), a)
     return count >= max(a[0], b[0]) + 1
 
 
@@ -83,14 +100,12 @@ def in_place(operation, p, levels, four_degrees, tower, a, b):
              + [(6, lambda: not room_for_sum(levels, four_degrees, a, b))])
     number = first_number(tests)
     if number != 0:
-        return answer_of(number), (), (list(tower), list(a), list(b))
+        return as_found(number, tower, a, b)
     degrees = used_degrees(levels, four_degrees)
     result = operation(words.tower_from_words(p, degrees, tower), levels,
                        words.slot_from_words(degrees, a),
                        words.slot_from_words(degrees, b))
-    count = (len(a) - 1) // words.sizes(degrees)[-1]
-    after = words.slot_to_words(degrees, result, count)
-    return answer_of(0), (), (list(tower), after, list(b))
+    return answer_of(0), (), (list(tower), rewritten(degrees, a, result), list(b))
 
 
 def polynomial_sum(p, levels, four_degrees, tower, a, b):

@@ -19,6 +19,9 @@ DEGREES = [LEAST, -1, 0, 1, 2, 64, 65, MOST]
 # Some degrees of a tower for each N, small enough to damage every word of it.
 SMALL_DEGREES = [(), (2,), (3,), (2, 2), (3, 2), (2, 2, 2), (2, 2, 2, 2)]
 
+# What a list that is not read may hold: words of elements, and words of nothing.
+RUBBISH = [-1] * 8 + [0] * 6 + [1] * 4 + [2, 3, 4, 5, 6, 9, 17, -2, -3, -8, LEAST, MOST]
+
 
 def four(degrees):
     """The degrees as 'four numbers', 'the others are 0'."""
@@ -114,3 +117,8 @@ def damaged(words, modulus):
     lists += neighbours_exchanged(words)
     lists += other_lengths(words)
     return lists
+
+
+def rubbish(rng, length):
+    """The words that a list holds by chance which no call reads."""
+    return [rng.choice(RUBBISH) for _ in range(length)]

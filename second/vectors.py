@@ -15,7 +15,9 @@ sys.dont_write_bytecode = True
 ROOT = os.path.dirname(os.path.dirname(os.path.abspath(__file__)))
 sys.path.insert(0, ROOT)
 
-from second import calls, cases_numbers, cases_slot, cases_sum, cases_tower
+from second import (
+    calls, cases_division, cases_numbers, cases_product, cases_slot, cases_sum,
+    cases_tower, products)
 
 # The name in a line, the call, the groups of its cases, and the numbers it can give.
 CALLS = [
@@ -25,6 +27,14 @@ CALLS = [
     ("slot", calls.check_slot, cases_slot.SLOT, {1, 2, 3, 4, 5}),
     ("sum", calls.polynomial_sum, cases_sum.SUM, {1, 2, 3, 4, 5, 6}),
     ("difference", calls.polynomial_difference, cases_sum.SUM, {1, 2, 3, 4, 5, 6}),
+]
+
+# The calls that the program `vectors` makes only when WITH_PRODUCTS says so.
+WITH_PRODUCTS = False
+PRODUCTS = [
+    ("product", products.polynomial_product, cases_product.PRODUCT, set(range(1, 8))),
+    ("division", products.polynomial_division, cases_division.DIVISION,
+     set(range(1, 9))),
 ]
 
 # Every call has at least so many cases.
@@ -70,7 +80,7 @@ def report(name, counts, numbers):
 def files():
     """The text of each file of the program's, by its path; tells the counts."""
     stdin, stdout = [], []
-    for name, call, groups, numbers in CALLS:
+    for name, call, groups, numbers in CALLS + (PRODUCTS if WITH_PRODUCTS else []):
         asked, answered, counts = lines_of(name, call, groups)
         stdin += asked
         stdout += answered

@@ -7,6 +7,8 @@ pub mod Poly
 pub mod Divide
 pub mod UnitDivide
 pub mod Quotient
+pub mod Windows
+pub mod Divided
 pub mod Zmod
 pub mod Divisor
 pub mod PolyRing

@@ -13,7 +13,7 @@
 use mathlib.Core.Path.{_≡_, refl, ap, sym, _∙_, fun-ext}
 use mathlib.Core.Bool.{Bool, true, _&&_}
 use mathlib.Core.HLevel.{Σ-set, prop→set, Unit-prop}
-use Prim.Native.Nat.{ℕ, zero, suc, _≤_}
+use Prim.Native.Nat.{ℕ, zero, suc, _≤_, _<_}
 use native.Mathlib.Omega.{arith}
 use lib.Dec.{T}
 use Rattle.algebra.specs.Test.{ZeroTest, both, both-l, both-r}
@@ -85,6 +85,11 @@ module _ {A : Type 0} (o : A) where
   coef-trunc zero f p n = sym (p n (omega arith))
   coef-trunc (suc d) f p zero = refl
   coef-trunc (suc d) f p (suc n) = coef-trunc d (λ n. f (suc n)) (below-tail f p) n
+
+  pub trunc-at : (d : ℕ) (f : ℕ → A) (n : ℕ) → n < d → coef o d (trunc d f) n ≡ f n
+  trunc-at zero f n h = absurd (omega arith)
+  trunc-at (suc d) f zero h = refl
+  trunc-at (suc d) f (suc n) h = trunc-at d (λ i. f (suc i)) n (omega arith)
 
   pub trunc-coef : (d : ℕ) (v : Vec A d) → trunc d (coef o d v) ≡ v
   trunc-coef zero v = refl

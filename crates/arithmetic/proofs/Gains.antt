@@ -1,6 +1,6 @@
 -- Laws of sum and difference in the store.
 use Prim.Native.Nat.{ℕ, suc, _+_, _-_, _*_, _<_, _≤_}
-use native.Mathlib.Nat.{mul-le-mul-right, suc-mul, add-mod-mod, add-zero, lt-irrefl}
+use native.Mathlib.Nat.{mul-le-mul-right, suc-mul, add-mod-mod, lt-irrefl}
 use native.Mathlib.Omega.{arith}
 use mathlib.Core.Path.{_≡_, refl, sym, ap, ap₂, _∙_, subst}
 use mathlib.Core.Logic.{_⊎_, inl, inr}
@@ -9,30 +9,17 @@ use mathlib.Core.List.{List, [], _∷_}
 use lib.IntN.{ℤ, pos}
 use lib.Dec.{ltb→lt}
 use lib.ListN.{length, getD, set}
-use lib.Seq.{take-all}
 use Rattle.algebra.specs.Test.{le-or-lt}
 use Rattle.algebra.specs.Vec.{Vec, coef}
 use Rattle.algebra.specs.Zmod.{Residue, zGroup}
 use Rattle.tower.specs.Levels.{degree, El, group}
-use Rattle.tower.specs.Writing.{size, size-zero, size-suc, write, write-zero, write-suc, write-long, writes, writes-long, slot, slot-long, countOf, size-pos}
-use Rattle.tower.specs.Form.{seg}
-use Rattle.tower.specs.Lists.{seg-seg, seg-at}
+use Rattle.tower.specs.Writing.{size, size-zero, size-suc, write, write-zero, write-suc, write-long, slot, slot-long, countOf, size-pos}
 use Rattle.tower.specs.Store.{Put, Kept, kept-refl, kept-trans, kept-wide, kept-join, kept-seg, put-kept, put-seg, put-set}
 use Rattle.tower.specs.Stands.{Stands, SlotStands, slot-of, degree-told, count-few}
 use Rattle.residue.specs.Number.{Operands}
 use Rattle.residue.specs.Word.{num, at, Narrow}
-use Rattle.arithmetic.specs.Rows.{RunStands, run-block, run-of, Settled}
+use Rattle.arithmetic.specs.Rows.{block-inside, RunStands, behind, word-of, narrow-by, run-block, run-of, Settled}
 use Rattle.arithmetic.specs.Sum.{gained, gained-zero, slotGained, gained-places, gained-at, gainedNumber, WordGained, Gained, RowGained, WordTerms, Terms, RowTerms}
-
--- the coefficients of a slot stand behind its degree word
-pub behind : (p : ℕ) (d : List ℕ) (i k : ℕ) (v : Vec (El p d i) k) (w : List ℤ) (a : ℕ) → SlotStands p d i k v w a → RunStands p d i k v w (a + 1)
-behind p d i k v w a h = sym (seg-seg a (k * size d i + 1) 1 (k * size d i) w (omega arith)) ∙ ap (seg 1 (k * size d i)) h ∙ whole
-  where
-    whole : seg 1 (k * size d i) (slot p d i k v) ≡ writes (write p d i) k v
-    whole = take-all (k * size d i) (writes (write p d i) k v) (omega (arith, writes-long (write p d i) (size d i) (write-long p d i) k v))
-
-block-end : (j k s : ℕ) → j < k → j * s + s ≤ k * s
-block-end j k s h = let q : suc j * s ≤ k * s = mul-le-mul-right s h in omega (arith, suc-mul j s)
 
 -- ---- the loop over the coefficients
 -- k of them have gained theirs; w₀ is the store before
@@ -62,8 +49,8 @@ module _ (p : ℕ) (d z : List ℕ) (i n : ℕ) (neg : Bool) (x : List ℤ) (a :
     pub gaining-place : k < countOf (getD x a (pos 0)) → (s : ℕ) → s ≡ size d i → (a + 1 + k * s ≤ length x) × (b + 1 + k * s ≤ length w)
     gaining-place q s es =
         let m : k * s ≡ k * size d i = ap (λ (y : ℕ). k * y) es in
-        let ends = block-end k n (size d i) (omega (arith, t .few)) in
-        let more = block-end k (t .coefficients) (size d i) (omega (arith, count-inside)) in
+        let ends = block-inside k n (size d i) (omega (arith, t .few)) in
+        let more = block-inside k (t .coefficients) (size d i) (omega (arith, count-inside)) in
         (omega (arith, t .right-inside), omega (arith, t .left-inside, g .kept .long))
 
     pub gaining-settles : (s : ℕ) → s ≡ size d i → (1 ≤ s) × (b + 1 + n * s ≤ length w)
@@ -76,8 +63,8 @@ module _ (p : ℕ) (d z : List ℕ) (i n : ℕ) (neg : Bool) (x : List ℤ) (a :
     gaining-terms q a′ b′ ea eb =
         let p-pos = t .modulus .positive in
         let few = t .few in
-        let ends = block-end k n (size d i) (omega arith) in
-        let more = block-end k (t .coefficients) (size d i) (omega (arith, count-inside)) in
+        let ends = block-inside k n (size d i) (omega arith) in
+        let more = block-inside k (t .coefficients) (size d i) (omega (arith, count-inside)) in
         record {
           modulus = t .modulus;
           low = t .low;
@@ -119,7 +106,7 @@ module _ (p : ℕ) (d z : List ℕ) (i n : ℕ) (neg : Bool) (x : List ℤ) (a :
             which : (k ≤ j) ⊎ (j < k)
                 → Stands p d i (gained (group p p-pos d i) neg (coef (group p p-pos d i .𝟘) n u j) (coef (group p p-pos d i .𝟘) l v j)) w′ (b + 1 + j * size d i)
             which (inr lt) =
-                let ends = block-end j k (size d i) lt in
+                let ends = block-inside j k (size d i) lt in
                 kept-seg (b + 1 + j * size d i) (size d i) (inl (omega arith)) here ∙ g .so-far p-pos u l v hu hv j lt
             which (inl ge) =
                 let e : k ≡ j = omega arith in
@@ -155,10 +142,6 @@ module _ (p : ℕ) (d z : List ℕ) (i n : ℕ) (neg : Bool) (x : List ℤ) (a :
             omega (arith, slot-long p d i n r)
 
 -- ---- one word
-word-of : (p : ℕ) (d : List ℕ) (u : El p d 0) (w : List ℤ) (b : ℕ) → Stands p d 0 u w b → getD w b (pos 0) ≡ pos (u .0)
-word-of p d u w b h =
-    ap (λ k. getD w k (pos 0)) (sym (add-zero b)) ∙ sym (seg-at b (size d 0) 0 w (omega (arith, size-zero d))) ∙ ap (λ l. getD l 0 (pos 0)) (h ∙ write-zero p d u)
-
 pub word-terms : (p : ℕ) (d z : List ℕ) (i : ℕ) (x : List ℤ) (a b : ℕ) (w : List ℤ) → i ≡ 0 → Terms p d z i x a b w → WordTerms p x a b w
 word-terms p d z i x a b w e t = go (subst (λ m. Terms p d z m x a b w) e t)
   where
@@ -173,7 +156,7 @@ word-terms p d z i x a b w e t = go (subst (λ m. Terms p d z m x a b w) e t)
       right-inside = omega (arith, t .right-inside, size-zero d);
     }
 
-gained-number : (p : ℕ) (p-pos : 0 < p) (neg : Bool) (u v : Residue p) → gainedNumber neg p (u .0) (v .0) ≡ gained (zGroup p p-pos) neg u v .0
+pub gained-number : (p : ℕ) (p-pos : 0 < p) (neg : Bool) (u v : Residue p) → gainedNumber neg p (u .0) (v .0) ≡ gained (zGroup p p-pos) neg u v .0
 gained-number p p-pos false u v = refl
 gained-number p p-pos true u v = sym (add-mod-mod (u .0) (p - v .0) p)
 
@@ -186,17 +169,11 @@ word-up p d i neg x a b w w′ e h = subst (λ m. Gained p d m neg x a b w w′)
         (h (u .0) (v .0) (word-of p d u w b hu) (word-of p d v x a hv))
 
 module _ {p : ℕ} {x : List ℤ} {a b : ℕ} {w : List ℤ} (t : WordTerms p x a b w) where
-  narrow-by : (g : ℤ) (u : Residue p) → g ≡ pos (u .0) → Narrow g
-  narrow-by g u e =
-      let h : u .0 < p = ltb→lt (u .0) p (u .1) in
-      let n : num g ≡ u .0 = ap num e in
-      record { value = e ∙ ap pos (sym n); small = omega (arith, n, h, t .modulus .narrow) }
-
   pub left-narrow : Narrow (getD w b (pos 0))
-  left-narrow = narrow-by _ (t .left) (t .left-is)
+  left-narrow = narrow-by p (t .modulus) _ (t .left) (t .left-is)
 
   pub right-narrow : Narrow (getD x a (pos 0))
-  right-narrow = narrow-by _ (t .right) (t .right-is)
+  right-narrow = narrow-by p (t .modulus) _ (t .right) (t .right-is)
 
   pub word-operands : (u v : ℕ) → u ≡ at w b → v ≡ at x a → Operands p u v
   word-operands u v eu ev =

@@ -1,2 +1,3 @@
 pub mod Tops
 pub mod Gains
+pub mod Walks

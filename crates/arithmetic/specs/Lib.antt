@@ -1,2 +1,4 @@
 pub mod Rows
 pub mod Sum
+pub mod Places
+pub mod Walk

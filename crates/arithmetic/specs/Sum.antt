@@ -5,8 +5,6 @@
 -- gained-places        == an element above level 0 is gained coefficient by coefficient
 -- Gained, RowGained    == what the code on an element, and on a slot, leaves in the store;  WordTerms, Terms, RowTerms == what it asks for
 -- gainedNumber         == the same of residues, as numbers
-use native.Mathlib.Nat.{not-suc-le-zero}
-use native.Mathlib.Omega.{arith}
 use Prim.Native.Nat.{ℕ, zero, suc, _+_, _-_, _*_, _%_, _<_, _≤_}
 use mathlib.Core.Path.{_≡_, refl, sym, ap, ap₂, _∙_}
 use mathlib.Core.Bool.{Bool, true, false}
@@ -14,7 +12,7 @@ use mathlib.Core.List.{List, [], _∷_}
 use lib.IntN.{ℤ, pos}
 use lib.ListN.{length, getD}
 use Rattle.algebra.specs.Ring.{Group, negative-zero}
-use Rattle.algebra.specs.Vec.{Vec, coef, trunc, vecGroup, negᵛ, coef-inj, coef-trunc, coef-below, coef-add, coef-neg}
+use Rattle.algebra.specs.Vec.{Vec, coef, trunc, vecGroup, negᵛ, coef-inj, coef-trunc, trunc-at, coef-below, coef-add, coef-neg}
 use Rattle.tower.specs.Levels.{El, group}
 use Rattle.tower.specs.Writing.{size, write, slot, countOf}
 use Rattle.algebra.specs.Zmod.{Residue}
@@ -35,11 +33,6 @@ gained-zero G true x = ap (λ y. G ._⊕_ x y) (negative-zero G) ∙ G .⊕-zero
 -- a polynomial of k coefficients gains one of l: what stands above k is not looked at
 abbrev pub slotGained : (G : Group) → Bool → (k l : ℕ) → Vec (G .Car) k → Vec (G .Car) l → Vec (G .Car) k
 slotGained G neg k l u v = trunc k (λ j. gained G neg (coef (G .𝟘) k u j) (coef (G .𝟘) l v j))
-
-trunc-at : {A : Type 0} (o : A) (k : ℕ) (f : ℕ → A) (j : ℕ) → j < k → coef o k (trunc k f) j ≡ f j
-trunc-at o zero f j h = absurd (not-suc-le-zero h)
-trunc-at o (suc k) f zero h = refl
-trunc-at o (suc k) f (suc j) h = trunc-at o k (λ n. f (suc n)) j (omega arith)
 
 pub gained-coef : (G : Group) (neg : Bool) (n : ℕ) (u v : Vec (G .Car) n) (j : ℕ)
     → coef (G .𝟘) n (gained (vecGroup G n) neg u v) j ≡ gained G neg (coef (G .𝟘) n u j) (coef (G .𝟘) n v j)

@@ -1,8 +1,9 @@
 -- Laws of sum and difference.
 use Rattle.kernel.proofs.Order.{then-first, then-next, zero-of, zero-then, zero-unless, base-is, tower-is, seg-all}
 use Rattle.kernel.proofs.Shapes.{size-found, slot-words}
-use Rattle.kernel.specs.Calls.{sizeOf, towerTable, towerNumber, baseNumber, shapeNumber}
-use Rattle.kernel.specs.Sums.{coefficientsOf, degreeCount, sumNumber, sumOf, sumBy, sumWords, changedBy}
+use Rattle.kernel.specs.Calls.{sizeOf, coefficientsOf, towerTable, towerNumber, baseNumber, shapeNumber}
+use Rattle.kernel.specs.Slots.{degreeCount, changedBy}
+use Rattle.kernel.specs.Sums.{sumNumber, sumOf, sumBy, sumWords}
 use Rattle.kernel.specs.Meaning.{tower-numbered}
 use Rattle.kernel.specs.Refusals.{done, refused, first-append, unless, andThen}
 use Rattle.kernel.specs.Shape.{Known, ShapeOf}

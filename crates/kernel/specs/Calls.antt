@@ -1,6 +1,7 @@
 -- What each public call gives, for every input: the numbers that nobody has looked at, and the lent words. What these definitions stand on is listed in docs/MATHEMATICS.md.
 --
 -- towerTable, slotTable, workTable  == the tests of a call in the order of document 01's numbers;  towerNumber .. == the number that they give, 0 for none
+-- coefficientsOf, lengthOk, formOk  == the coefficients of a slot; its length is allowed; it is in form
 -- checkTower, checkSlot, workSizes, fraction == what the calls give
 use Prim.Native.Nat.{ℕ, zero, suc, _*_, _%_}
 use mathlib.Core.Bool.{Bool, true, false, _&&_}
@@ -57,13 +58,25 @@ checkTower p n e t = refusal (towerNumber p n e t)
 abbrev pub sizeOf : ℤ → List ℤ → ℕ
 sizeOf n e = size (degreesOf e) (num n)
 
--- the length of a slot
-abbrev pub lengthRow : ℤ → List ℤ → List ℤ → ℕ × (Unit {0} → Bool)
-lengthRow n e a = (bad-length, λ _. slotLength (sizeOf n e) (length a))
+-- the coefficients of a slot
+abbrev pub coefficientsOf : ℤ → List ℤ → List ℤ → ℕ
+coefficientsOf n e a = slotCount (sizeOf n e) (length a)
 
--- its form
+-- its length is allowed
+abbrev pub lengthOk : ℤ → List ℤ → List ℤ → Bool
+lengthOk n e a = slotLength (sizeOf n e) (length a)
+
+-- it is in form
+abbrev pub formOk : ℤ → ℤ → List ℤ → List ℤ → Bool
+formOk p n e a = slotForm (num p) (degreesOf e) (num n) (coefficientsOf n e a) a
+
+-- the test of its length
+abbrev pub lengthRow : ℤ → List ℤ → List ℤ → ℕ × (Unit {0} → Bool)
+lengthRow n e a = (bad-length, λ _. lengthOk n e a)
+
+-- the test of its form
 abbrev pub formRow : ℤ → ℤ → List ℤ → List ℤ → ℕ × (Unit {0} → Bool)
-formRow p n e a = (bad-form, λ _. slotForm (num p) (degreesOf e) (num n) (slotCount (sizeOf n e) (length a)) a)
+formRow p n e a = (bad-form, λ _. formOk p n e a)
 
 -- the tests of a tower and of a slot over it
 abbrev pub slotTable : ℤ → ℤ → List ℤ → List ℤ → List ℤ → Table

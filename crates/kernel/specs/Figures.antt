@@ -11,17 +11,23 @@ use native.Mathlib.Omega.{arith}
 use lib.IntN.{ℤ, pos, negsuc}
 use lib.Dec.{lit<, lit≤}
 use lib.ListN.{length}
+use Rattle.algebra.specs.Divide.{divide}
+use Rattle.algebra.specs.Quotient.{mulᵛ, oneᵛ, residue as residueᵛ}
+use Rattle.algebra.specs.Series.{_*ˢ_}
 use Rattle.algebra.specs.Vec.{zeroᵛ}
 use Rattle.euclid.specs.Number.{rows, inverse₀}
 use Rattle.tower.specs.Levels.{group}
-use Rattle.tower.specs.Writing.{size, read, reads, write, writes, slot-long}
+use Rattle.tower.specs.Writing.{size, read, reads, write, writes, towerOf, slot-long}
 use Rattle.tower.specs.Form.{copies, zeroWords, formOver, inForm, oneWords, modulusOver, towerForm}
 use Rattle.tower.specs.Limits.{slotLength}
 use Rattle.tower.specs.Unique.{slotCoding}
 use Rattle.tower.specs.Work.{productWork, inverseWork, gcdWork}
 use Rattle.kernel.specs.Refusals.{Said, done, refused, refusal}
 use Rattle.kernel.specs.Calls.{sizeOf, towerNumber, checkTower, slotNumber, checkSlot, Sizes, workNumber, workSizes, Fraction, fractionNumber, fractionResidue, fraction}
-use Rattle.kernel.specs.Sums.{Changed, sumNumber, sumWords, sum}
+use Rattle.kernel.specs.Slots.{Changed}
+use Rattle.kernel.specs.Sums.{sumNumber, sumWords, sum}
+use Rattle.kernel.specs.Products.{ProductWords, productNumber, productWords, product}
+use Rattle.kernel.specs.Divisions.{DivisionWords, divisionNumber, remainderWords, quotientWords, division}
 use Rattle.kernel.specs.Meaning.{tower-says}
 use Rattle.kernel.specs.SlotMeaning.{PolynomialOf, slotOf, slot-passes, slot-given}
 
@@ -63,29 +69,67 @@ check64 a = checkSlot (pos 7) (pos 2) (degrees 64 31) powers a
 abbrev pub slot64 : (k : ℕ) → PolynomialOf (pos 7) (pos 2) (degrees 64 31) k → List ℤ
 slot64 k v = slotOf (pos 7) (pos 2) (degrees 64 31) k v
 
--- "T7 is p = 7, m_1 = z² + 5."
+-- "T7 is p = 7, m_1 = z² + 5."; the calculator's a and b over it
+abbrev pub t7-words : List ℤ
+t7-words = plain (2 ∷ 5 ∷ 0 ∷ 1 ∷ [])
+
+abbrev pub a7 : List ℤ
+a7 = pos 2 ∷ pos 0 ∷ pos 5 ∷ pos 0 ∷ negsuc 0 ∷ pos 0 ∷ pos 0 ∷ pos 0 ∷ pos 1 ∷ pos 0 ∷ []
+
+abbrev pub b7 : List ℤ
+b7 = plain (1 ∷ 1 ∷ 0 ∷ 6 ∷ 0 ∷ 1 ∷ 0 ∷ [])
+
 abbrev pub check7 : List ℤ → Said
 check7 t = checkTower (pos 7) (pos 1) (degrees 2 0) t
 
 abbrev pub slot7 : List ℤ → Said
-slot7 a = checkSlot (pos 7) (pos 1) (degrees 2 0) (plain (2 ∷ 5 ∷ 0 ∷ 1 ∷ [])) a
+slot7 a = checkSlot (pos 7) (pos 1) (degrees 2 0) t7-words a
 
--- what a sum leaves: Done and the words of a's slot, or a refusal and a as found
-abbrev pub left : List ℤ → Changed
-left a = record { said = done; words = a }
+-- what a call leaves: Done and the words that it may change, or a refusal and these as found
+abbrev pub left : {A : Type 0} → A → Changed A
+left w = record { said = done; words = w }
 
-abbrev pub kept : ℕ → List ℤ → Changed
-kept k a = record { said = refused k; words = a }
+abbrev pub kept : {A : Type 0} → ℕ → A → Changed A
+kept k w = record { said = refused k; words = w }
 
--- p = 6, N = 0
-abbrev pub plus6 : List ℤ → List ℤ → Changed
+-- p = 6, N = 0; T7
+abbrev pub plus6 : List ℤ → List ℤ → Changed (List ℤ)
 plus6 a b = sum false (pos 6) (pos 0) (degrees 0 0) [] a b
 
-abbrev pub minus6 : List ℤ → List ℤ → Changed
+abbrev pub minus6 : List ℤ → List ℤ → Changed (List ℤ)
 minus6 a b = sum true (pos 6) (pos 0) (degrees 0 0) [] a b
 
-abbrev pub minus7 : List ℤ → List ℤ → Changed
-minus7 a b = sum true (pos 7) (pos 1) (degrees 2 0) (plain (2 ∷ 5 ∷ 0 ∷ 1 ∷ [])) a b
+abbrev pub minus7 : List ℤ → List ℤ → Changed (List ℤ)
+minus7 a b = sum true (pos 7) (pos 1) (degrees 2 0) t7-words a b
+
+-- the words of c and of the work store; those of a, of q and of the work store
+abbrev pub c-work : List ℤ → List ℤ → ProductWords
+c-work c v = record { product = c; work = v }
+
+abbrev pub a-q-work : List ℤ → List ℤ → List ℤ → DivisionWords
+a-q-work a q v = record { remainder = a; quotient = q; work = v }
+
+-- n words k
+abbrev pub words : ℕ → ℕ → List ℤ
+words n k = copies n (pos k ∷ [])
+
+-- p = 5, d = (3, 2), m_2 = y² + z·y + z² + 2, m_1 = z³ + z + 1: (y + z)x + 1 times z²·y + 3
+abbrev pub times5 : List ℤ → List ℤ → Changed ProductWords
+times5 c v =
+    product (pos 5) (pos 2) (degrees 3 2) (plain (2 ∷ 2 ∷ 2 ∷ 0 ∷ 1 ∷ 1 ∷ 0 ∷ 1 ∷ 0 ∷ 0 ∷ 1 ∷ 0 ∷ 0 ∷ 3 ∷ 1 ∷ 1 ∷ 0 ∷ 1 ∷ []))
+    (plain (1 ∷ 0 ∷ 0 ∷ 1 ∷ 0 ∷ 0 ∷ []) ++ (negsuc 0 ∷ plain (0 ∷ 0 ∷ 0 ∷ 1 ∷ 1 ∷ 0 ∷ 1 ∷ 0 ∷ 0 ∷ 1 ∷ 0 ∷ 0 ∷ [])))
+    (plain (0 ∷ 1 ∷ 0 ∷ 3 ∷ 0 ∷ 0 ∷ 2 ∷ 0 ∷ 0 ∷ 1 ∷ []))
+    c v
+
+abbrev pub times6 : List ℤ → List ℤ → List ℤ → List ℤ → Changed ProductWords
+times6 a b c v = product (pos 6) (pos 0) (degrees 0 0) [] a b c v
+
+abbrev pub by6 : List ℤ → List ℤ → List ℤ → List ℤ → Changed DivisionWords
+by6 a b q v = division (pos 6) (pos 0) (degrees 0 0) [] a b q v
+
+-- a over T7, divided
+abbrev pub by7 : List ℤ → List ℤ → List ℤ → Changed DivisionWords
+by7 b q v = division (pos 7) (pos 1) (degrees 2 0) t7-words a7 b q v
 
 pub record Figures : Type 0 where
   -- C1 "p = 1 gives 1; 2 and 2,147,483,647 pass; 2,147,483,648 gives 1."
@@ -107,6 +151,10 @@ pub record Figures : Type 0 where
   pub c3-all-words : (v : PolynomialOf (pos 7) (pos 2) (degrees 64 31) 32) → length (slot64 32 v) ≡ 64513
   pub c3-all-pass : (v : PolynomialOf (pos 7) (pos 2) (degrees 64 31) 32) → check64 (slot64 32 v) ≡ done
   pub c3-all-more : (v : PolynomialOf (pos 7) (pos 2) (degrees 64 31) 33) → check64 (slot64 33 v) ≡ refused 4
+  -- C4 "d = (3, 2), 37 work words: product gives 7; 38 pass.": y² is -z·y - z² - 2 and z³ is -z - 1, so the product is (3y + 4z² + 4z)x + z²·y + 3
+  pub c4-short : times5 (words 19 4) (words 37 1) ≡ kept 7 (c-work (words 19 4) (words 37 1))
+  pub c4-pass : times5 (words 19 4) (words 38 1)
+      ≡ left (c-work (plain (1 ∷ 1 ∷ 0 ∷ 3 ∷ 0 ∷ 0 ∷ 2 ∷ 0 ∷ 0 ∷ 1 ∷ 1 ∷ 2 ∷ 0 ∷ 4 ∷ 4 ∷ 0 ∷ 3 ∷ 0 ∷ 0 ∷ [])) (words 38 0))
   -- C11 "p = 17: -1/5 has residue 10; p = 7: 1/7 gives 10 as refusal."
   pub c11-residue : fraction (pos 17) (negsuc 0) (pos 5) ≡ residue 10
   pub c11-none : fraction (pos 7) (pos 1) (pos 7) ≡ no-residue 10
@@ -122,15 +170,15 @@ pub record Figures : Type 0 where
   pub work-flat : workSizes (pos 0) (degrees 0 0) (pos 3) (pos 2) ≡ sizes 0 0 11
   pub work-levels : (e : List ℤ) (a b : ℤ) → workSizes (pos 5) e a b ≡ no-sizes 2
   -- T7, and what is not a tower: not monic, a word 7, a word too few, a word too many, the degree 1
-  pub t7 : check7 (plain (2 ∷ 5 ∷ 0 ∷ 1 ∷ [])) ≡ done
+  pub t7 : check7 t7-words ≡ done
   pub t7-monic : check7 (plain (2 ∷ 5 ∷ 0 ∷ 2 ∷ [])) ≡ refused 3
   pub t7-seven : check7 (plain (2 ∷ 7 ∷ 0 ∷ 1 ∷ [])) ≡ refused 3
   pub t7-short : check7 (plain (2 ∷ 5 ∷ 0 ∷ [])) ≡ refused 3
   pub t7-long : check7 (plain (2 ∷ 5 ∷ 0 ∷ 1 ∷ 0 ∷ [])) ≡ refused 3
   pub t7-degree : check7 (plain (1 ∷ 5 ∷ 1 ∷ 0 ∷ [])) ≡ refused 3
   -- the calculator's a and b over T7; and a with a zero leading coefficient, with a coefficient above its degree, with a zero not in form, and a word too few
-  pub slot-a : slot7 (pos 2 ∷ pos 0 ∷ pos 5 ∷ pos 0 ∷ negsuc 0 ∷ pos 0 ∷ pos 0 ∷ pos 0 ∷ pos 1 ∷ pos 0 ∷ []) ≡ done
-  pub slot-b : slot7 (plain (1 ∷ 1 ∷ 0 ∷ 6 ∷ 0 ∷ 1 ∷ 0 ∷ [])) ≡ done
+  pub slot-a : slot7 a7 ≡ done
+  pub slot-b : slot7 b7 ≡ done
   pub slot-lead : slot7 (pos 2 ∷ pos 0 ∷ pos 5 ∷ pos 0 ∷ pos 0 ∷ pos 1 ∷ pos 0 ∷ negsuc 0 ∷ pos 0 ∷ pos 0 ∷ []) ≡ refused 5
   pub slot-above : slot7 (pos 1 ∷ pos 0 ∷ pos 5 ∷ pos 0 ∷ pos 0 ∷ pos 1 ∷ pos 0 ∷ pos 0 ∷ pos 1 ∷ pos 0 ∷ []) ≡ refused 5
   pub slot-zero : slot7 (pos 2 ∷ pos 0 ∷ pos 5 ∷ pos 0 ∷ negsuc 0 ∷ pos 1 ∷ pos 0 ∷ pos 0 ∷ pos 1 ∷ pos 0 ∷ []) ≡ refused 5
@@ -154,12 +202,34 @@ pub record Figures : Type 0 where
   -- sums and differences: modulo 6 the leading coefficients cancel; over T7 a - a is the zero slot; b may stand in a longer slot; no room for x in one coefficient
   pub sum-falls : plus6 (plain (1 ∷ 1 ∷ 3 ∷ [])) (plain (1 ∷ 2 ∷ 3 ∷ [])) ≡ left (plain (0 ∷ 3 ∷ 0 ∷ []))
   pub minus-order : minus6 (plain (0 ∷ 1 ∷ [])) (plain (0 ∷ 3 ∷ [])) ≡ left (plain (0 ∷ 4 ∷ []))
-  pub minus-same : minus7 (plain (1 ∷ 1 ∷ 0 ∷ 6 ∷ 0 ∷ 1 ∷ 0 ∷ [])) (plain (1 ∷ 1 ∷ 0 ∷ 6 ∷ 0 ∷ 1 ∷ 0 ∷ [])) ≡ left (negsuc 0 ∷ negsuc 0 ∷ pos 0 ∷ pos 0 ∷ negsuc 0 ∷ pos 0 ∷ pos 0 ∷ [])
+  pub minus-same : minus7 b7 b7 ≡ left (negsuc 0 ∷ negsuc 0 ∷ pos 0 ∷ pos 0 ∷ negsuc 0 ∷ pos 0 ∷ pos 0 ∷ [])
   pub sum-longer : plus6 (plain (0 ∷ 5 ∷ [])) (plain (0 ∷ 5 ∷ 0 ∷ [])) ≡ left (plain (0 ∷ 4 ∷ []))
   pub sum-room : plus6 (plain (0 ∷ 5 ∷ [])) (plain (1 ∷ 0 ∷ 1 ∷ [])) ≡ kept 6 (plain (0 ∷ 5 ∷ []))
   -- 4 before 5: a not in form, b without a coefficient
   pub sum-first : plus6 (plain (0 ∷ 6 ∷ [])) (plain (0 ∷ [])) ≡ kept 4 (plain (0 ∷ 6 ∷ []))
   pub sum-form : plus6 (plain (0 ∷ 5 ∷ [])) (plain (0 ∷ 6 ∷ [])) ≡ kept 5 (plain (0 ∷ 5 ∷ []))
+  -- "Modulo 6, (2x + 1)(3x + 1) = 5x + 1.": c needs three coefficients all the same; by zero it needs one. Without a tower no work word is needed or cleared
+  pub product-falls : times6 (plain (1 ∷ 1 ∷ 2 ∷ [])) (plain (1 ∷ 1 ∷ 3 ∷ [])) (words 4 9) (words 2 9) ≡ left (c-work (plain (1 ∷ 1 ∷ 5 ∷ 0 ∷ [])) (words 2 9))
+  pub product-room : times6 (plain (1 ∷ 1 ∷ 2 ∷ [])) (plain (1 ∷ 1 ∷ 3 ∷ [])) (words 3 9) (words 2 9) ≡ kept 6 (c-work (words 3 9) (words 2 9))
+  pub product-zero : times6 (negsuc 0 ∷ plain (0 ∷ [])) (plain (1 ∷ 1 ∷ 3 ∷ [])) (words 2 9) [] ≡ left (c-work (negsuc 0 ∷ plain (0 ∷ [])) [])
+  pub product-by-zero : times6 (plain (1 ∷ 1 ∷ 3 ∷ [])) (negsuc 0 ∷ plain (0 ∷ [])) (words 2 9) [] ≡ left (c-work (negsuc 0 ∷ plain (0 ∷ [])) [])
+  -- 4 looks at c too, before the form of a
+  pub product-first : times6 (plain (0 ∷ 6 ∷ [])) (plain (0 ∷ 1 ∷ [])) (words 1 9) [] ≡ kept 4 (c-work (words 1 9) [])
+  -- the calculator's division over T7, into a slot of three coefficients: x² + 5 is (x + z)(x + 6z). M(1) = 8 of nine work words are cleared
+  pub division-t7 : by7 b7 (words 10 9) (words 9 9)
+      ≡ left (a-q-work
+      (negsuc 0 ∷ negsuc 0 ∷ pos 0 ∷ pos 0 ∷ negsuc 0 ∷ pos 0 ∷ pos 0 ∷ negsuc 0 ∷ pos 0 ∷ pos 0 ∷ [])
+      (plain (1 ∷ 1 ∷ 0 ∷ 1 ∷ 0 ∷ 1 ∷ 0 ∷ []) ++ (negsuc 0 ∷ plain (0 ∷ 0 ∷ [])))
+      (words 8 0 ++ words 1 9))
+  -- no room for x + z in one coefficient; seven work words; "Taking an element for 1 because its degree word is 0": 2 is not 1
+  pub division-room : by7 b7 (words 4 9) (words 9 9) ≡ kept 6 (a-q-work a7 (words 4 9) (words 9 9))
+  pub division-work : by7 (plain (1 ∷ 1 ∷ 0 ∷ 6 ∷ 0 ∷ 2 ∷ 0 ∷ [])) (words 7 9) (words 7 9) ≡ kept 7 (a-q-work a7 (words 7 9) (words 7 9))
+  pub division-monic : by7 (plain (1 ∷ 1 ∷ 0 ∷ 6 ∷ 0 ∷ 2 ∷ 0 ∷ [])) (words 7 9) (words 8 9) ≡ kept 8 (a-q-work a7 (words 7 9) (words 8 9))
+  -- by zero: 8, but 6 where q has not deg a + 2 coefficients
+  pub division-zero : by7 (negsuc 0 ∷ negsuc 0 ∷ plain (0 ∷ 0 ∷ [])) (words 13 9) (words 8 9) ≡ kept 8 (a-q-work a7 (words 13 9) (words 8 9))
+  pub division-zero-room : by7 (negsuc 0 ∷ negsuc 0 ∷ plain (0 ∷ 0 ∷ [])) (words 10 9) (words 8 9) ≡ kept 6 (a-q-work a7 (words 10 9) (words 8 9))
+  -- a dividend below the divisor's degree stays, and the quotient is zero
+  pub division-small : by6 (plain (0 ∷ 5 ∷ [])) (plain (2 ∷ 1 ∷ 0 ∷ 1 ∷ [])) (words 2 9) [] ≡ left (a-q-work (plain (0 ∷ 5 ∷ [])) (negsuc 0 ∷ plain (0 ∷ [])) [])
 
 tower-computes : towerNumber (pos 7) (pos 2) (degrees 64 31) powers ≡ 0
 unfolding size zeroWords formOver inForm oneWords modulusOver towerForm towerNumber
@@ -191,6 +261,7 @@ zero-slot k = slotCoding 7 (lit< tt) d64 2 k .write-zero
 pub figures : Figures
 unfolding size zeroWords formOver inForm oneWords modulusOver towerForm slotLength productWork inverseWork gcdWork
     inverse₀ rows towerNumber slotNumber workNumber fractionNumber fractionResidue sumNumber sumWords read reads write writes
+    productNumber productWords divisionNumber remainderWords quotientWords towerOf divide mulᵛ oneᵛ residueᵛ _*ˢ_
 figures = record {
   c1-one = λ n e t. refl;
   c1-two = refl;
@@ -208,6 +279,8 @@ figures = record {
   c3-all-words = long64 32;
   c3-all-pass = passes;
   c3-all-more = too-long;
+  c4-short = refl;
+  c4-pass = refl;
   c11-residue = refl;
   c11-none = refl;
   s0 = refl;
@@ -252,4 +325,16 @@ figures = record {
   sum-room = refl;
   sum-first = refl;
   sum-form = refl;
+  product-falls = refl;
+  product-room = refl;
+  product-zero = refl;
+  product-by-zero = refl;
+  product-first = refl;
+  division-t7 = refl;
+  division-room = refl;
+  division-work = refl;
+  division-monic = refl;
+  division-zero = refl;
+  division-zero-room = refl;
+  division-small = refl;
 }

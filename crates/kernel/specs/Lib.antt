@@ -1,6 +1,9 @@
 pub mod Refusals
 pub mod Calls
+pub mod Slots
 pub mod Sums
+pub mod Products
+pub mod Divisions
 pub mod Answers
 pub mod Shape
 pub mod Fractions
@@ -9,5 +12,8 @@ pub mod Meaning
 pub mod SlotMeaning
 pub mod FractionMeaning
 pub mod WorkMeaning
+pub mod SlotLaws
 pub mod SumMeaning
+pub mod ProductMeaning
+pub mod DivisionMeaning
 pub mod Figures

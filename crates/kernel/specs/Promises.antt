@@ -1,7 +1,8 @@
 -- The promises of the public calls, as their contracts cite them, and that each determines what the call gives: two results that it allows are equal.
 -- Lists that are lent to be read only cannot change, by their type.
 --
--- TowerChecked, SlotChecked, SizesGiven, FractionGiven, SumGiven == the promises;  .. -determined == two results that a promise allows are equal
+-- TowerChecked, SlotChecked, SizesGiven, FractionGiven, SumGiven, ProductGiven, DivisionGiven == the promises
+-- .. -determined == two results that a promise allows are equal
 -- in-order == the tests of each call stand in the order of their numbers
 use mathlib.Core.Path.{_≡_, sym, _∙_}
 use mathlib.Core.Bool.{Bool}
@@ -15,6 +16,8 @@ use lib.Dec.{T}
 use Rattle.kernel.specs.Refusals.{ordered}
 use Rattle.kernel.specs.Calls.{towerTable, checkTower, slotTable, checkSlot, workTable, workSizes, fractionTable, fraction}
 use Rattle.kernel.specs.Sums.{sumTable, sum}
+use Rattle.kernel.specs.Products.{productTable, product}
+use Rattle.kernel.specs.Divisions.{divisionTable, division}
 
 pub record TowerChecked (p n : ℤ) (e t : List ℤ) (r : Answer) : Type 0 where
   pub answer : said r ≡ checkTower p n e t
@@ -60,6 +63,29 @@ pub record SumGiven (neg : Bool) (p n : ℤ) (e t a b : List ℤ) (r : Answer) (
 pub sum-determined : (neg : Bool) (p n : ℤ) (e t a b : List ℤ) (r s : Answer) (u v : List ℤ) → SumGiven neg p n e t a b r u → SumGiven neg p n e t a b s v → (r ≡ s) × (u ≡ v)
 sum-determined neg p n e t a b r s u v h k = (said-inj r s (h .answer ∙ sym (k .answer)), h .words ∙ sym (k .words))
 
+-- product: the answer, and the words of c and of the work store afterwards
+pub record ProductGiven (p n : ℤ) (e t a b c v : List ℤ) (r : Answer) (c′ v′ : List ℤ) : Type 0 where
+  pub answer : said r ≡ product p n e t a b c v .said
+  pub words : c′ ≡ product p n e t a b c v .words .product
+  pub work : v′ ≡ product p n e t a b c v .words .work
+
+pub product-determined : (p n : ℤ) (e t a b c v : List ℤ) (r s : Answer) (c₁ c₂ v₁ v₂ : List ℤ)
+    → ProductGiven p n e t a b c v r c₁ v₁ → ProductGiven p n e t a b c v s c₂ v₂ → (r ≡ s) × (c₁ ≡ c₂) × (v₁ ≡ v₂)
+product-determined p n e t a b c v r s c₁ c₂ v₁ v₂ h k =
+    (said-inj r s (h .answer ∙ sym (k .answer)), h .words ∙ sym (k .words), h .work ∙ sym (k .work))
+
+-- division: the answer, and the words of a, of q and of the work store afterwards
+pub record DivisionGiven (p n : ℤ) (e t a b q v : List ℤ) (r : Answer) (a′ q′ v′ : List ℤ) : Type 0 where
+  pub answer : said r ≡ division p n e t a b q v .said
+  pub remainder : a′ ≡ division p n e t a b q v .words .remainder
+  pub quotient : q′ ≡ division p n e t a b q v .words .quotient
+  pub work : v′ ≡ division p n e t a b q v .words .work
+
+pub division-determined : (p n : ℤ) (e t a b q v : List ℤ) (r s : Answer) (a₁ a₂ q₁ q₂ v₁ v₂ : List ℤ)
+    → DivisionGiven p n e t a b q v r a₁ q₁ v₁ → DivisionGiven p n e t a b q v s a₂ q₂ v₂ → (r ≡ s) × (a₁ ≡ a₂) × (q₁ ≡ q₂) × (v₁ ≡ v₂)
+division-determined p n e t a b q v r s a₁ a₂ q₁ q₂ v₁ v₂ h k =
+    (said-inj r s (h .answer ∙ sym (k .answer)), h .remainder ∙ sym (k .remainder), h .quotient ∙ sym (k .quotient), h .work ∙ sym (k .work))
+
 -- "Refusal numbers, tested in this order": so each call's tests stand
 pub record InOrder : Type 0 where
   pub tower : (p n : ℤ) (e t : List ℤ) → T (ordered 1 (towerTable p n e t))
@@ -67,6 +93,8 @@ pub record InOrder : Type 0 where
   pub sizes : (n : ℤ) (e : List ℤ) (a b : ℤ) → T (ordered 1 (workTable n e a b))
   pub fraction : (p e : ℤ) → T (ordered 1 (fractionTable p e))
   pub sum : (p n : ℤ) (e t a b : List ℤ) → T (ordered 1 (sumTable p n e t a b))
+  pub product : (p n : ℤ) (e t a b c v : List ℤ) → T (ordered 1 (productTable p n e t a b c v))
+  pub division : (p n : ℤ) (e t a b q v : List ℤ) → T (ordered 1 (divisionTable p n e t a b q v))
 
 pub in-order : InOrder
 in-order = record {
@@ -75,4 +103,6 @@ in-order = record {
   sizes = λ n e a b. tt;
   fraction = λ p e. tt;
   sum = λ p n e t a b. tt;
+  product = λ p n e t a b c v. tt;
+  division = λ p n e t a b q v. tt;
 }

@@ -4,7 +4,7 @@
 -- Said, done, factor, refused == "Done, a shown factor with its level, and a refusal are three kinds of answer."
 -- Table, first                == rows of a number and a test; the first number whose test does not pass, 0 where all pass
 -- refusal, refusal-inj        == the answer that a number is, and that it tells the number
--- ordered                     == the rows stand in the order of their numbers
+-- ordered                     == the rows stand in the order of their numbers;  ordered-numbered == from 1 on, so none of them is 0
 -- first-append                == two tables, one behind the other
 -- passed-of, first-of         == no number is given exactly where every test passes
 -- first-applies               == a number that is given is the first that applies, and comes only under its condition;  first-is == the first that applies is given
@@ -15,7 +15,8 @@ use mathlib.Core.Path.{_≡_, refl, ap, sym, _∙_}
 use mathlib.Core.Bool.{Bool, true, false, not, _&&_}
 use mathlib.Core.List.{List, [], _∷_, _++_}
 use mathlib.Core.Logic.{_⊎_, inl, inr}
-use lib.Dec.{T, leb}
+use lib.Dec.{T, leb, leb→le}
+use Rattle.algebra.specs.Test.{both-l, both-r}
 
 pub data Said : Type 0 where
   done : Said
@@ -45,6 +46,14 @@ bad-form = 5
 -- "answer slot too small"
 abbrev pub small-answer : ℕ
 small-answer = 6
+
+-- "work store shorter than needed"
+abbrev pub small-work : ℕ
+small-work = 7
+
+-- "divisor not monic, or zero"
+abbrev pub not-monic : ℕ
+not-monic = 8
 
 -- "fraction without residue"
 abbrev pub no-residue : ℕ
@@ -95,6 +104,13 @@ andThen (suc k) r = suc k
 abbrev pub Numbered : Table → Type 0
 Numbered [] = Unit {0}
 Numbered (row ∷ rows) = (1 ≤ row .0) × Numbered rows
+
+-- so it is where they stand in order and the first is one
+pub ordered-numbered : (k : ℕ) (t : Table) → 1 ≤ k → T (ordered k t) → Numbered t
+ordered-numbered k [] l h = tt
+ordered-numbered k (row ∷ rows) l h =
+    let one : 1 ≤ row .0 = omega (arith, leb→le k (row .0) (both-l (leb k (row .0)) _ h)) in
+    (one, ordered-numbered (row .0) rows one (both-r (leb k (row .0)) _ h))
 
 unless-then : (b : Bool) (k r s : ℕ) → 1 ≤ k → unless b k (andThen r s) ≡ andThen (unless b k r) s
 unless-then true k r s h = refl

@@ -16,13 +16,14 @@ use Rattle.algebra.specs.Test.{branch-yes, both-r, le-or-lt}
 use Rattle.algebra.specs.Vec.{Vec, coef, coef-below}
 use Rattle.arithmetic.specs.Sum.{gained, gained-zero, gained-at, slotGained}
 use Rattle.residue.specs.Word.{num}
-use Rattle.tower.specs.Form.{slotForm}
 use Rattle.tower.specs.Levels.{group}
 use Rattle.tower.specs.Limits.{pOk, p-positive, degreesOf}
-use Rattle.tower.specs.Stands.{slot-stands, degree-told}
 use Rattle.tower.specs.Writing.{slot}
-use Rattle.kernel.specs.Refusals.{Numbered, Passed, passed-of}
-use Rattle.kernel.specs.Sums.{coefficientsOf, degreeCount, polynomialOf, sumTable, sumNumber, sumOf, sumBy, sumWords, changedBy, sum}
+use Rattle.kernel.specs.Calls.{coefficientsOf, formOk}
+use Rattle.kernel.specs.Refusals.{Passed, passed-of, ordered-numbered}
+use Rattle.kernel.specs.SlotLaws.{held-below}
+use Rattle.kernel.specs.Slots.{degreeCount, coefficientsIn, changedBy}
+use Rattle.kernel.specs.Sums.{sumTable, sumNumber, sumOf, sumBy, sumWords, sum}
 
 -- nothing is lost: a polynomial that is zero from k on fits k coefficients
 pub gained-whole : (G : Group) (neg : Bool) (k l : ℕ) (u : Vec (G .Car) k) (v : Vec (G .Car) l) → ((j : ℕ) → k ≤ j → coef (G .𝟘) l v j ≡ G .𝟘)
@@ -34,14 +35,10 @@ gained-whole G neg k l u v h j = which (le-or-lt k j)
     which (inl q) =
         coef-below (G .𝟘) k _ j q ∙ sym (ap₂ (gained G neg) (coef-below (G .𝟘) k u j q) (h j q) ∙ gained-zero G neg (G .𝟘))
 
--- number by number, as the tests stand
-sum-numbered : (p n : ℤ) (e t a b : List ℤ) → Numbered (sumTable p n e t a b)
-sum-numbered p n e t a b = (omega arith, (omega arith, (omega arith, (omega arith, (omega arith, (omega arith, (omega arith, (omega arith, tt))))))))
-
 module _ (p n : ℤ) (e t a b : List ℤ) (h : sumNumber p n e t a b ≡ 0) where
   tests : Passed (sumTable p n e t a b)
   unfolding sumNumber
-  tests = passed-of (sumTable p n e t a b) (sum-numbered p n e t a b) h
+  tests = passed-of (sumTable p n e t a b) (ordered-numbered 1 (sumTable p n e t a b) (omega arith) tt) h
 
   -- p is in range
   pub sum-modulus : T (pOk p)
@@ -50,24 +47,17 @@ module _ (p n : ℤ) (e t a b : List ℤ) (h : sumNumber p n e t a b ≡ 0) wher
   abbrev pub sumGroup : Group
   sumGroup = group (num p) (p-positive p sum-modulus) (degreesOf e) (num n)
 
-  -- the coefficients of what a slot holds, 0 above it
-  abbrev pub coefficientsIn : List ℤ → ℕ → sumGroup .Car
-  coefficientsIn x j = coef (sumGroup .𝟘) (coefficientsOf n e x) (polynomialOf p n e sum-modulus (coefficientsOf n e x) x) j
-
-  form-b : T (slotForm (num p) (degreesOf e) (num n) (coefficientsOf n e b) b)
-  form-b = both-r (slotForm (num p) (degreesOf e) (num n) (coefficientsOf n e a) a) _ (tests .1 .1 .1 .1 .1 .1 .0)
+  form-b : T (formOk p n e b)
+  form-b = both-r (formOk p n e a) _ (tests .1 .1 .1 .1 .1 .1 .0)
 
   fits-b : degreeCount b ≤ coefficientsOf n e a
   fits-b = leb→le (degreeCount b) (coefficientsOf n e a) (both-r (leb (degreeCount a) (coefficientsOf n e a)) _ (tests .1 .1 .1 .1 .1 .1 .1 .0))
 
-  none : (j : ℕ) → coefficientsOf n e a ≤ j → coefficientsIn b j ≡ sumGroup .𝟘
-  none j q =
-      let stands = slot-stands (num p) (p-positive p sum-modulus) (degreesOf e) (num n) (coefficientsOf n e b) b form-b in
-      degree-told (num p) (p-positive p sum-modulus) (degreesOf e) (num n) b 0 (coefficientsOf n e b) _ stands .rest j (omega (arith, fits-b))
-
   pub sum-coefficients : (neg : Bool) (j : ℕ)
-      → coef (sumGroup .𝟘) (coefficientsOf n e a) (sumOf neg p n e a b sum-modulus) j ≡ gained sumGroup neg (coefficientsIn a j) (coefficientsIn b j)
-  sum-coefficients neg j = gained-whole sumGroup neg (coefficientsOf n e a) (coefficientsOf n e b) _ _ none j
+      → coef (sumGroup .𝟘) (coefficientsOf n e a) (sumOf neg p n e a b sum-modulus) j
+      ≡ gained sumGroup neg (coefficientsIn p n e sum-modulus a j) (coefficientsIn p n e sum-modulus b j)
+  sum-coefficients neg j =
+      gained-whole sumGroup neg (coefficientsOf n e a) (coefficientsOf n e b) _ _ (λ j l. held-below p n e sum-modulus b form-b j (omega (arith, fits-b))) j
 
   -- and these are the words of a's slot afterwards
   pub sum-words : (neg : Bool) → sum neg p n e t a b .words ≡ slot (num p) (degreesOf e) (num n) (coefficientsOf n e a) (sumOf neg p n e a b sum-modulus)

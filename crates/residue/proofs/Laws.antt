@@ -53,11 +53,13 @@ added-more m n a lo hi lo′ hi′ h f = record { lo-most = omega arith; hi-most
 pub added-then : (m n a b lo hi l h lo′ hi′ : ℕ) → Added m a lo hi l h → Added n b l h lo′ hi′ → Added (m + n) (a + b) lo hi lo′ hi′
 added-then m n a b lo hi l h lo′ hi′ f g = record { lo-most = omega arith; hi-most = omega arith; value = omega arith }
 
-pub reduced : (lo hi p : ℕ) → 0 < p → Below p (sumOf lo hi % p) ((hi % p * 2 ^ 32 + lo % p) % p)
+pub reduced : (lo hi p : ℕ) → 0 < p → Below p (sumOf lo hi % p) (((hi + lo / 2 ^ 32) % p * 2 ^ 32 + lo % 2 ^ 32) % p)
 reduced lo hi p h = record {
   value =
-      add-mod-mod (hi % p * 2 ^ 32) lo p ∙ sym (mod-add-mod (hi % p * 2 ^ 32) p lo) ∙ ap (λ k. (k + lo) % p) (mul-mod-l hi (2 ^ 32) p)
-      ∙ mod-add-mod (hi * 2 ^ 32) p lo ∙ ap (λ k. k % p) (omega arith);
+      sym (mod-add-mod ((hi + lo / 2 ^ 32) % p * 2 ^ 32) p (lo % 2 ^ 32))
+      ∙ ap (λ k. (k + lo % 2 ^ 32) % p) (mul-mod-l (hi + lo / 2 ^ 32) (2 ^ 32) p)
+      ∙ mod-add-mod ((hi + lo / 2 ^ 32) * 2 ^ 32) p (lo % 2 ^ 32)
+      ∙ ap (λ k. k % p) (omega (arith, div-add-mod' lo (2 ^ 32)));
   small = mod-lt _ h;
 }
 

@@ -69,10 +69,11 @@ pub fn fold(s: Accumulator, v: u64) -> Accumulator
 
 // What an accumulator holds, modulo p.
 pub fn reduce(s: Accumulator, p: u64) -> u64
-    requires { ⌜ Modulus p ⌝ }
+    requires { ⌜ Modulus p × Room 1 (s .lo) (s .hi) ⌝ }
     ensures { λ r. ⌜ Below p (sumOf (s .lo) (s .hi) % p) r ⌝ }
 {
-    ((s.hi % p) * 4294967296 + s.lo % p) % p
+    let h = (s.hi + s.lo / 4294967296) % p;
+    (h * 4294967296 + s.lo % 4294967296) % p
 }
 
 // How far n is from 0.

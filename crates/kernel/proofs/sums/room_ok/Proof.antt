@@ -2,7 +2,7 @@ use mathlib.Core.Path.{ap, _∙_}
 use lib.Dec.{leb}
 use native.Mathlib.Omega.{arith}
 use borrow.Author.Tests.{le-leb, lt-leb}
-use Rattle.kernel.specs.Sums.{degreeCount}
+use Rattle.kernel.specs.Slots.{degreeCount}
 use Rattle.tower.proofs.Laws.{and-false-l, and-true-l}
 use borrow.Author.Needs.{needs}
 use Rattle.kernel.proofs.sums.room_ok.Statement.{statement}

@@ -1,0 +1,76 @@
+-- What the calls on polynomials share: what a slot holds, the tests of several slots and of the work store, and what a call leaves of the words lent to it.
+--
+-- degreeCount                  == one more than the degree of what a slot holds, by its degree word
+-- polynomialOf, coefficientsIn == the polynomial that a slot holds, and its coefficient function
+-- formsRow                     == the test of the form of two slots
+-- slotsTable                   == the tests of product and division up to number 7
+-- topRing                      == R_N, the ring that the polynomials are over
+-- filled                       == the words of a slot that holds given coefficients;  cleared == those of a work store after Done
+-- Changed, changedBy           == an answer, and the words that the call may change as they are afterwards
+use Prim.Native.Nat.{ℕ, zero, suc}
+use mathlib.Core.Bool.{Bool, _&&_}
+use mathlib.Core.List.{List, [], _∷_, _++_}
+use lib.IntN.{ℤ, pos}
+use lib.Dec.{T, leb}
+use lib.ListN.{length, getD, drop}
+use Rattle.algebra.specs.Ring.{CRing}
+use Rattle.algebra.specs.Vec.{Vec, coef, trunc}
+use Rattle.residue.specs.Word.{num}
+use Rattle.tower.specs.Form.{copies}
+use Rattle.tower.specs.Levels.{El, group, ring}
+use Rattle.tower.specs.Limits.{pOk, p-positive, degreesOf}
+use Rattle.tower.specs.Work.{productWork}
+use Rattle.tower.specs.Writing.{slot, unslot, towerOf, countOf}
+use Rattle.kernel.specs.Refusals.{Said, done, refused, bad-length, bad-form, small-answer, small-work, Table}
+use Rattle.kernel.specs.Calls.{coefficientsOf, lengthOk, formOk, towerTable}
+
+-- one more than the degree of what a slot holds, 0 for zero
+abbrev pub degreeCount : List ℤ → ℕ
+degreeCount a = countOf (getD a 0 (pos 0))
+
+-- the polynomial that a slot of k coefficients holds
+abbrev pub polynomialOf : (p n : ℤ) (e : List ℤ) → T (pOk p) → (k : ℕ) → List ℤ → Vec (El (num p) (degreesOf e) (num n)) k
+polynomialOf p n e h k a = unslot (num p) (p-positive p h) (degreesOf e) (num n) k a
+
+-- its coefficients, 0 above them
+abbrev pub coefficientsIn : (p n : ℤ) (e : List ℤ) → T (pOk p) → List ℤ → ℕ → El (num p) (degreesOf e) (num n)
+coefficientsIn p n e h a =
+    coef (group (num p) (p-positive p h) (degreesOf e) (num n) .𝟘) (coefficientsOf n e a) (polynomialOf p n e h (coefficientsOf n e a) a)
+
+-- ---- tests
+-- the form of two slots
+abbrev pub formsRow : ℤ → ℤ → List ℤ → List ℤ → List ℤ → ℕ × (Unit {0} → Bool)
+formsRow p n e a b = (bad-form, λ _. formOk p n e a && formOk p n e b)
+
+-- a tower, the slots a and b over it, a slot c of at least r coefficients for an answer, and a work store v
+abbrev pub slotsTable : (p n : ℤ) (e t a b c v : List ℤ) → ℕ → Table
+slotsTable p n e t a b c v r =
+    towerTable p n e t
+    ++ ((bad-length, λ _. lengthOk n e a && (lengthOk n e b && lengthOk n e c))
+    ∷ formsRow p n e a b
+    ∷ (small-answer, λ _. leb r (coefficientsOf n e c))
+    ∷ (small-work, λ _. leb (productWork (degreesOf e) (num n)) (length v))
+    ∷ [])
+
+-- ---- what is computed with, and what is left
+-- the ring of the tower whose words are t
+abbrev pub topRing : (p n : ℤ) (e : List ℤ) → List ℤ → T (pOk p) → CRing
+topRing p n e t h = ring (num p) (p-positive p h) (degreesOf e) (num n) (towerOf (num p) (p-positive p h) (degreesOf e) (num n) t)
+
+-- the words of a's slot when it holds the coefficients f, as many of them as it has
+abbrev pub filled : (p n : ℤ) (e a : List ℤ) → (ℕ → El (num p) (degreesOf e) (num n)) → List ℤ
+filled p n e a f = slot (num p) (degreesOf e) (num n) (coefficientsOf n e a) (trunc (coefficientsOf n e a) f)
+
+-- "After Done .. the needed work words are 0 and those beyond are as before."
+abbrev pub cleared : ℕ → List ℤ → List ℤ
+cleared m v = copies m (pos 0 ∷ []) ++ drop m v
+
+-- an answer, and the words that may have changed as they are afterwards
+pub record Changed (A : Type 0) : Type 0 where
+  pub said : Said
+  pub words : A
+
+-- "Numbers 1 to 10 leave every lent word as found."
+abbrev pub changedBy : {A : Type 0} → ℕ → A → A → Changed A
+changedBy zero new old = record { said = done; words = new }
+changedBy (suc k) new old = record { said = refused (suc k); words = old }

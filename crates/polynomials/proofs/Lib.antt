@@ -1,0 +1,3 @@
+pub mod Multiplies
+pub mod Divides
+pub mod Partings

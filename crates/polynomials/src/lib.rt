@@ -1,0 +1,2 @@
+// Product and division of polynomials in their slots.
+pub mod slots;

@@ -1,0 +1,9 @@
+pub mod Frames
+pub mod Towers
+pub mod Pairings
+pub mod Lowests
+pub mod Dots
+pub mod Lowerings
+pub mod Fillings
+pub mod Remainders
+pub mod Products

@@ -1,0 +1,3 @@
+// Products and remainders of elements at any level of a tower, in one store by a stack discipline.
+pub mod lowest;
+pub mod product;
