@@ -27,11 +27,6 @@ CALLS = [
     ("slot", calls.check_slot, cases_slot.SLOT, {1, 2, 3, 4, 5}),
     ("sum", calls.polynomial_sum, cases_sum.SUM, {1, 2, 3, 4, 5, 6}),
     ("difference", calls.polynomial_difference, cases_sum.SUM, {1, 2, 3, 4, 5, 6}),
-]
-
-# The calls that the program `vectors` makes only when WITH_PRODUCTS says so.
-WITH_PRODUCTS = False
-PRODUCTS = [
     ("product", products.polynomial_product, cases_product.PRODUCT, set(range(1, 8))),
     ("division", products.polynomial_division, cases_division.DIVISION,
      set(range(1, 9))),
@@ -80,7 +75,7 @@ def report(name, counts, numbers):
 def files():
     """The text of each file of the program's, by its path; tells the counts."""
     stdin, stdout = [], []
-    for name, call, groups, numbers in CALLS + (PRODUCTS if WITH_PRODUCTS else []):
+    for name, call, groups, numbers in CALLS:
         asked, answered, counts = lines_of(name, call, groups)
         stdin += asked
         stdout += answered

@@ -5,3 +5,6 @@ pub mod Working
 pub mod Shapes
 pub mod Quotients
 pub mod Summing
+pub mod Slotting
+pub mod Multiplying
+pub mod Dividing

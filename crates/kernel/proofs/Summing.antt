@@ -175,11 +175,11 @@ module _ (p n : ℤ) (e t a b : List ℤ) (g : Passed p n e t a b) where
       same = put .kept .long ∙ long a (ls .0) ∙ sym (slot-long (num p) (degreesOf e) (num n) K (sumOf neg p n e a b (g .modulus)) ∙ omega arith)
 
 -- ---- the call
-refused-by : (k r : ℕ) (new old : List ℤ) → r ≡ k → 0 < r → (refused r ≡ changedBy k new old .said) × (old ≡ changedBy k new old .words)
+pub refused-by : {A : Type 0} (k r : ℕ) (new old : A) → r ≡ k → 0 < r → (refused r ≡ changedBy k new old .said) × (old ≡ changedBy k new old .words)
 refused-by zero r new old e h = absurd (lt-irrefl 0 (omega arith))
 refused-by (suc k) r new old e h = (ap refused e, refl)
 
-done-by : (k r : ℕ) (new old : List ℤ) → r ≡ k → r ≤ 0 → (done ≡ changedBy k new old .said) × (new ≡ changedBy k new old .words)
+pub done-by : {A : Type 0} (k r : ℕ) (new old : A) → r ≡ k → r ≤ 0 → (done ≡ changedBy k new old .said) × (new ≡ changedBy k new old .words)
 done-by zero r new old e h = (refl, refl)
 done-by (suc k) r new old e h = absurd (lt-irrefl 0 (omega arith))
 

@@ -31,12 +31,12 @@ use Rattle.tower.specs.Levels.{ring}
 use Rattle.tower.specs.Limits.{pOk, p-positive, degreesOf}
 use Rattle.tower.specs.Lists.{same-sound, same-eq}
 use Rattle.tower.specs.Work.{productWork}
-use Rattle.kernel.specs.Calls.{coefficientsOf, formOk}
+use Rattle.kernel.specs.Calls.{sizeOf, coefficientsOf, formOk}
 use Rattle.kernel.specs.Meaning.{InRange, TowerHeld}
 use Rattle.kernel.specs.Refusals.{passed-of, ordered-numbered}
 use Rattle.kernel.specs.SlotLaws.{Tested, tested, ring-held, Written, held-below, held-few, held-one, filled-written, filled-holds, Cleared, cleared-words}
-use Rattle.kernel.specs.Slots.{degreeCount, polynomialOf, coefficientsIn, filled, topRing}
-use Rattle.kernel.specs.Divisions.{quotientRoom, divisorDegree, leadingWords, monicRow, divisionTable, divisionNumber, divisorOf, remainderOf, quotientOf}
+use Rattle.kernel.specs.Slots.{quotientRoom, degreeCount, polynomialOf, coefficientsIn, filled, topRing}
+use Rattle.kernel.specs.Divisions.{divisorDegree, leadingWords, monicRow, divisionTable, divisionNumber, divisorOf, remainderOf, quotientOf}
 use Rattle.kernel.specs.Divisions.{remainderWords, quotientWords, division}
 
 -- the first d coefficients of f and the next above them
@@ -54,12 +54,12 @@ pub monic-iff : (p n : ℤ) (e t b : List ℤ) (r : InRange p n e) (f : T (formO
     → T (monicRow n e b .1 tt) ↔ ((1 ≤ degreeCount b) × (coefficientsIn p n e (r .modulus) b (divisorDegree b) ≡ topRing p n e t (r .modulus) .𝟙))
 monic-iff p n e t b r f = (
   λ h. (let some = leb→le 1 (degreeCount b) (both-l (leb 1 (degreeCount b)) _ h) in
-      (some, one some .0 (same-sound (leadingWords n e b) (oneWords (degreesOf e) (num n)) (both-r (leb 1 (degreeCount b)) _ h)))),
+      (some, one some .0 (same-sound (leadingWords (sizeOf n e) b) (oneWords (degreesOf e) (num n)) (both-r (leb 1 (degreeCount b)) _ h)))),
   λ h. both (leb 1 (degreeCount b)) _ (le→leb 1 (degreeCount b) (h .0)) (same-eq (one (h .0) .1 (h .1))),
 )
   where
     one : 1 ≤ degreeCount b
-        → (leadingWords n e b ≡ oneWords (degreesOf e) (num n)) ↔ (coefficientsIn p n e (r .modulus) b (divisorDegree b) ≡ topRing p n e t (r .modulus) .𝟙)
+        → (leadingWords (sizeOf n e) b ≡ oneWords (degreesOf e) (num n)) ↔ (coefficientsIn p n e (r .modulus) b (divisorDegree b) ≡ topRing p n e t (r .modulus) .𝟙)
     one some = held-one p n e t b r f (divisorDegree b) (omega (arith, held-few p n e (r .modulus) b f))
 
 -- the number looks at the lengths of q and v only

@@ -1,8 +1,7 @@
 -- Division by a monic polynomial over the tower's top ring: the remainder replaces a, the quotient goes into a slot q. The work store v is cleared as far as it
 -- is needed.
 --
--- quotientRoom                  == the coefficients that q needs
--- divisorDegree, leadingWords   == the divisor's degree, and the words of its leading coefficient;  monicRow == the test that these are the words of 1
+-- divisorDegree, leadingWords   == the divisor's degree, and the words of its leading coefficient;  monicWords, monicRow == the test that these are those of 1
 -- divisionTable, divisionNumber == the tests in the order of their numbers, and the number that they give
 -- divisorOf                     == the divisor's coefficients under its leading 1
 -- remainderOf, remainderWords   == the remainder's coefficients, and the words of a's slot after Done
@@ -23,23 +22,22 @@ use Rattle.tower.specs.Limits.{pOk, degreesOf}
 use Rattle.tower.specs.Work.{productWork}
 use Rattle.kernel.specs.Refusals.{not-monic, Table, first}
 use Rattle.kernel.specs.Calls.{sizeOf, coefficientsOf}
-use Rattle.kernel.specs.Slots.{degreeCount, polynomialOf, coefficientsIn, slotsTable, topRing, filled, cleared, Changed, changedBy}
-
--- "quotient, deg a - deg b + 1 and at least 1", from one more than the two degrees; where b is zero these are deg a + 2
-abbrev pub quotientRoom : ℕ → ℕ → ℕ
-quotientRoom k l = suc (k - l)
+use Rattle.kernel.specs.Slots.{quotientRoom, degreeCount, polynomialOf, coefficientsIn, slotsTable, topRing, filled, cleared, Changed, changedBy}
 
 -- the degree of a divisor that is not zero
 abbrev pub divisorDegree : List ℤ → ℕ
 divisorDegree b = degreeCount b - 1
 
--- the words of the coefficient there
-abbrev pub leadingWords : ℤ → List ℤ → List ℤ → List ℤ
-leadingWords n e b = seg (suc (divisorDegree b * sizeOf n e)) (sizeOf n e) b
+-- the s words of the coefficient there
+abbrev pub leadingWords : ℕ → List ℤ → List ℤ
+leadingWords s b = seg (suc (divisorDegree b * s)) s b
 
--- b is not zero, and its leading coefficient is 1
+-- b is not zero, and its leading coefficient is 1: of level i over the degrees d, and of s words
+abbrev pub monicWords : List ℕ → ℕ → ℕ → List ℤ → Bool
+monicWords d i s b = leb 1 (degreeCount b) && same (leadingWords s b) (oneWords d i)
+
 abbrev pub monicRow : ℤ → List ℤ → List ℤ → ℕ × (Unit {0} → Bool)
-monicRow n e b = (not-monic, λ _. leb 1 (degreeCount b) && same (leadingWords n e b) (oneWords (degreesOf e) (num n)))
+monicRow n e b = (not-monic, λ _. monicWords (degreesOf e) (num n) (sizeOf n e) b)
 
 abbrev pub divisionTable : (p n : ℤ) (e t a b q v : List ℤ) → Table
 divisionTable p n e t a b q v = slotsTable p n e t a b q v (quotientRoom (degreeCount a) (degreeCount b)) ++ (monicRow n e b ∷ [])

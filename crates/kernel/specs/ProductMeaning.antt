@@ -25,8 +25,8 @@ use Rattle.kernel.specs.Calls.{coefficientsOf}
 use Rattle.kernel.specs.Meaning.{TowerHeld}
 use Rattle.kernel.specs.Refusals.{passed-of, ordered-numbered}
 use Rattle.kernel.specs.SlotLaws.{Tested, tested, ring-held, Written, held-below, filled-written, filled-holds, Cleared, cleared-words}
-use Rattle.kernel.specs.Slots.{degreeCount, coefficientsIn, filled, topRing}
-use Rattle.kernel.specs.Products.{productRoom, productTable, productNumber, productOf, productWords, product}
+use Rattle.kernel.specs.Slots.{productRoom, degreeCount, coefficientsIn, filled, topRing}
+use Rattle.kernel.specs.Products.{productTable, productNumber, productOf, productWords, product}
 
 -- a product fits the room: also that of a zero polynomial
 product-low : (R : CRing) (k l : ℕ) (f g : Series R) → Below (R .𝟘) k f → Below (R .𝟘) l g → Below (R .𝟘) (productRoom k l) (_*ˢ_ R f g)

@@ -1,10 +1,9 @@
 -- Product of two polynomials over the tower's top ring, into a slot c. The work store v is cleared as far as it is needed.
 --
--- productRoom                 == the coefficients that c needs
 -- productTable, productNumber == the tests in the order of their numbers, and the number that they give
 -- productOf, productWords     == the product's coefficients, and the words of c's slot after Done
 -- product                     == what the call gives, and the words of c and of the work store afterwards
-use Prim.Native.Nat.{ℕ, zero, suc, _+_}
+use Prim.Native.Nat.{ℕ}
 use mathlib.Core.List.{List}
 use lib.IntN.{ℤ}
 use lib.Dec.{T}
@@ -15,13 +14,7 @@ use Rattle.tower.specs.Levels.{El}
 use Rattle.tower.specs.Limits.{pOk, degreesOf}
 use Rattle.tower.specs.Work.{productWork}
 use Rattle.kernel.specs.Refusals.{Table, first}
-use Rattle.kernel.specs.Slots.{degreeCount, coefficientsIn, slotsTable, topRing, filled, cleared, Changed, changedBy}
-
--- "product, deg a + deg b + 1 even where the leading product vanishes, and 1 if either is zero", from one more than the two degrees
-abbrev pub productRoom : ℕ → ℕ → ℕ
-productRoom zero l = 1
-productRoom (suc k) zero = 1
-productRoom (suc k) (suc l) = k + l + 1
+use Rattle.kernel.specs.Slots.{productRoom, degreeCount, coefficientsIn, slotsTable, topRing, filled, cleared, Changed, changedBy}
 
 abbrev pub productTable : (p n : ℤ) (e t a b c v : List ℤ) → Table
 productTable p n e t a b c v = slotsTable p n e t a b c v (productRoom (degreeCount a) (degreeCount b))

@@ -3,12 +3,13 @@
 -- degreeCount                  == one more than the degree of what a slot holds, by its degree word
 -- polynomialOf, coefficientsIn == the polynomial that a slot holds, and its coefficient function
 -- formsRow                     == the test of the form of two slots
--- slotsTable                   == the tests of product and division up to number 7
+-- productRoom, quotientRoom    == the coefficients that the answer's slot needs;  roomNeeded == of a division or else of a product
+-- slotsTable, slotsNumber      == the tests of product and division up to number 7, and the number that they give
 -- topRing                      == R_N, the ring that the polynomials are over
 -- filled                       == the words of a slot that holds given coefficients;  cleared == those of a work store after Done
 -- Changed, changedBy           == an answer, and the words that the call may change as they are afterwards
-use Prim.Native.Nat.{ℕ, zero, suc}
-use mathlib.Core.Bool.{Bool, _&&_}
+use Prim.Native.Nat.{ℕ, zero, suc, _+_, _-_}
+use mathlib.Core.Bool.{Bool, true, false, _&&_}
 use mathlib.Core.List.{List, [], _∷_, _++_}
 use lib.IntN.{ℤ, pos}
 use lib.Dec.{T, leb}
@@ -21,7 +22,7 @@ use Rattle.tower.specs.Levels.{El, group, ring}
 use Rattle.tower.specs.Limits.{pOk, p-positive, degreesOf}
 use Rattle.tower.specs.Work.{productWork}
 use Rattle.tower.specs.Writing.{slot, unslot, towerOf, countOf}
-use Rattle.kernel.specs.Refusals.{Said, done, refused, bad-length, bad-form, small-answer, small-work, Table}
+use Rattle.kernel.specs.Refusals.{Said, done, refused, bad-length, bad-form, small-answer, small-work, Table, first}
 use Rattle.kernel.specs.Calls.{coefficientsOf, lengthOk, formOk, towerTable}
 
 -- one more than the degree of what a slot holds, 0 for zero
@@ -42,6 +43,20 @@ coefficientsIn p n e h a =
 abbrev pub formsRow : ℤ → ℤ → List ℤ → List ℤ → List ℤ → ℕ × (Unit {0} → Bool)
 formsRow p n e a b = (bad-form, λ _. formOk p n e a && formOk p n e b)
 
+-- "product, deg a + deg b + 1 even where the leading product vanishes, and 1 if either is zero", from one more than the two degrees
+abbrev pub productRoom : ℕ → ℕ → ℕ
+productRoom zero l = 1
+productRoom (suc k) zero = 1
+productRoom (suc k) (suc l) = k + l + 1
+
+-- "quotient, deg a - deg b + 1 and at least 1", from one more than the two degrees; where b is zero these are deg a + 2
+abbrev pub quotientRoom : ℕ → ℕ → ℕ
+quotientRoom k l = suc (k - l)
+
+abbrev pub roomNeeded : Bool → ℕ → ℕ → ℕ
+roomNeeded false k l = productRoom k l
+roomNeeded true k l = quotientRoom k l
+
 -- a tower, the slots a and b over it, a slot c of at least r coefficients for an answer, and a work store v
 abbrev pub slotsTable : (p n : ℤ) (e t a b c v : List ℤ) → ℕ → Table
 slotsTable p n e t a b c v r =
@@ -51,6 +66,10 @@ slotsTable p n e t a b c v r =
     ∷ (small-answer, λ _. leb r (coefficientsOf n e c))
     ∷ (small-work, λ _. leb (productWork (degreesOf e) (num n)) (length v))
     ∷ [])
+
+-- the number that they give, of a division or else of a product
+unfoldable pub slotsNumber : Bool → (p n : ℤ) (e t a b c v : List ℤ) → ℕ
+slotsNumber divides p n e t a b c v = first (slotsTable p n e t a b c v (roomNeeded divides (degreeCount a) (degreeCount b)))
 
 -- ---- what is computed with, and what is left
 -- the ring of the tower whose words are t

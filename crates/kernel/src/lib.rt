@@ -1,13 +1,18 @@
 // The public calls. None has a `requires`: what a call cannot do it refuses, by the first number of document 01's table that applies. What each gives is in
-// specs/Calls.antt and specs/Sums.antt, and the promises cite it by name (specs/Promises.antt). The modules are private: what stands in them is no call.
+// specs/Calls.antt, Sums.antt, Products.antt and Divisions.antt, and the promises cite it by name (specs/Promises.antt). The modules are private: what stands in them is no call.
+mod divisions;
 mod fractions;
+mod multiplication;
 mod numbers;
+mod slots;
 mod sums;
 
-ghost use Rattle.kernel.specs.Promises.{TowerChecked, SlotChecked, SizesGiven, FractionGiven, SumGiven};
+ghost use Rattle.kernel.specs.Promises.{TowerChecked, SlotChecked, SizesGiven, FractionGiven, SumGiven, ProductGiven, DivisionGiven};
 ghost use mathlib.Core.Bool.{true, false};
+use divisions::parted;
 use fractions::no_fraction;
 use fractions::quotient;
+use multiplication::multiplied;
 use numbers::BAD_MODULUS;
 use numbers::NO_RESIDUE;
 use numbers::answer;
@@ -116,4 +121,39 @@ pub fn difference(p: i64, n: i64, e: [i64; 4], t: &[i64], a: &mut [i64], b: &[i6
     ensures given { λ r. ⌜ SumGiven true p n e (now (t .entry)) (now (a .entry)) (now (b .entry)) r (now (a .exit)) ⌝ }
 {
     gained(true, p, n, e, t, a, b)
+}
+
+// Product: a times b, into c. Refuses 1 to 7. After Done it has written the whole of c's slot and M(N) words 0 in the work store v; when refused nothing.
+pub fn product(
+    p: i64,
+    n: i64,
+    e: [i64; 4],
+    t: &[i64],
+    a: &[i64],
+    b: &[i64],
+    c: &mut [i64],
+    v: &mut [i64],
+) -> Answer
+    ensures given { λ r.
+        ⌜ ProductGiven p n e (now (t .entry)) (now (a .entry)) (now (b .entry)) (now (c .entry)) (now (v .entry)) r (now (c .exit)) (now (v .exit)) ⌝ }
+{
+    multiplied(p, n, e, t, a, b, c, v)
+}
+
+// Division by a monic b: the remainder replaces a, the quotient goes into q. Refuses 1 to 8. After Done it has written the whole of both slots and M(N)
+// words 0 in the work store v; when refused nothing.
+pub fn division(
+    p: i64,
+    n: i64,
+    e: [i64; 4],
+    t: &[i64],
+    a: &mut [i64],
+    b: &[i64],
+    q: &mut [i64],
+    v: &mut [i64],
+) -> Answer
+    ensures given { λ r.
+        ⌜ DivisionGiven p n e (now (t .entry)) (now (a .entry)) (now (b .entry)) (now (q .entry)) (now (v .entry)) r (now (a .exit)) (now (q .exit)) (now (v .exit)) ⌝ }
+{
+    parted(p, n, e, t, a, b, q, v)
 }

@@ -37,6 +37,10 @@ pub const BAD_FORM: usize = 5;
 
 pub const SMALL_ANSWER: usize = 6;
 
+pub const SMALL_WORK: usize = 7;
+
+pub const NOT_MONIC: usize = 8;
+
 pub const NO_RESIDUE: usize = 10;
 
 // The answer that a number is: 0 is Done.

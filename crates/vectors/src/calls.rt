@@ -12,19 +12,21 @@ use crate::output::Output;
 use crate::output::put;
 use crate::output::put_number;
 use crate::output::put_words;
+use crate::polynomials::division;
+use crate::polynomials::product;
 use kernel::Answer;
 use tower::words::word_at;
 
 // The words that a list can have which a call may change: more than the longest slot has, so that
 // a slot that is too long reaches the call.
-const MOST_CHANGED: usize = 70000;
+pub const MOST_CHANGED: usize = 70000;
 
 // Where the words of a list stand among the numbers. A list that is not all there has no words and
 // stands behind the last number.
-struct Part {
-    start: usize,
-    end: usize,
-    whole: bool,
+pub struct Part {
+    pub start: usize,
+    pub end: usize,
+    pub whole: bool,
 }
 
 fn missing(numbers: &[i64]) -> Part
@@ -39,7 +41,7 @@ fn missing(numbers: &[i64]) -> Part
 }
 
 // The list whose count stands at a place.
-fn list_at(numbers: &[i64], at: usize) -> Part
+pub fn list_at(numbers: &[i64], at: usize) -> Part
     ensures { λ r. ⌜ Within r (now (numbers .entry)) ⌝ }
 {
     if numbers.len() <= at {
@@ -62,7 +64,7 @@ fn list_at(numbers: &[i64], at: usize) -> Part
 }
 
 // The words of a list.
-fn words(numbers: &[i64], list: Part) -> &[i64]
+pub fn words(numbers: &[i64], list: Part) -> &[i64]
     requires { ⌜ Within list (now numbers) ⌝ }
 {
     let start = list.start;
@@ -71,7 +73,7 @@ fn words(numbers: &[i64], list: Part) -> &[i64]
 }
 
 // Whether a list is the last thing of a line.
-fn last(list: Part, numbers: &[i64]) -> bool {
+pub fn last(list: Part, numbers: &[i64]) -> bool {
     if list.whole {
         return list.end == numbers.len();
     }
@@ -79,7 +81,7 @@ fn last(list: Part, numbers: &[i64]) -> bool {
 }
 
 // The four degrees that stand from a place on.
-fn degrees_at(numbers: &[i64], at: usize) -> [i64; 4]
+pub fn degrees_at(numbers: &[i64], at: usize) -> [i64; 4]
     requires { ⌜ at + 4 ≤ length (now numbers) ⌝ }
 {
     let first = word_at(numbers, at);
@@ -89,14 +91,14 @@ fn degrees_at(numbers: &[i64], at: usize) -> [i64; 4]
     [first, second, third, fourth]
 }
 
-fn bad_line(line: u64, out: &mut Output, held: usize) -> usize {
+pub fn bad_line(line: u64, out: &mut Output, held: usize) -> usize {
     let said = put(out, held, b"bad line");
     let numbered = put_number(out, said, line);
     put(out, numbered, b"\n")
 }
 
 // The call's name and its answer.
-fn put_answer(out: &mut Output, held: usize, name: &[u8], answer: Answer) -> usize {
+pub fn put_answer(out: &mut Output, held: usize, name: &[u8], answer: Answer) -> usize {
     let named = put(out, held, name);
     match answer {
         Answer::Done => put(out, named, b"\tdone"),
@@ -183,7 +185,7 @@ fn slot(numbers: &[i64], line: u64, out: &mut Output, held: usize) -> usize {
 }
 
 // The words of a list at the front of a store of its own.
-fn fill(store: &mut [i64], words: &[i64])
+pub fn fill(store: &mut [i64], words: &[i64])
     requires { ⌜ length (now words) ≤ length (now store) ⌝ }
 {
     let n = words.len();
@@ -308,6 +310,8 @@ fn make(call: Call, numbers: &[i64], line: u64, out: &mut Output, held: usize) -
         Call::Slot => slot(numbers, line, out, held),
         Call::Sum => gain(false, numbers, line, out, held),
         Call::Difference => gain(true, numbers, line, out, held),
+        Call::Product => product(numbers, line, out, held),
+        Call::Division => division(numbers, line, out, held),
         Call::Unknown => bad_line(line, out, held),
     }
 }

@@ -14,6 +14,8 @@ pub enum Call {
     Slot,
     Sum,
     Difference,
+    Product,
+    Division,
     Unknown,
 }
 
@@ -65,6 +67,12 @@ fn call_named(name: &[u8]) -> Call {
     }
     if same(name, b"difference") {
         return Call::Difference;
+    }
+    if same(name, b"product") {
+        return Call::Product;
+    }
+    if same(name, b"division") {
+        return Call::Division;
     }
     Call::Unknown
 }

@@ -8,6 +8,7 @@
 mod calls;
 mod field;
 mod output;
+mod polynomials;
 
 ghost use Rattle.vectors.specs.Sound.{Sound};
 use crate::field::Call;
