@@ -1,6 +1,7 @@
 -- Remainders of sums, negatives, short polynomials and products, and division in place.
 --
 -- remainder-add, -neg, -short, -product    == R[z]/m reckoned on any number of coefficients, by the remainder of division by the monic m
+-- joined R g q r                           == the coefficients of r below g, and from g on those of q: joined-low, joined-high
 -- row cap f                                == the row that division in place of f's cap coefficients leaves: row-low == below g the remainder,
 --                                             row-high == from g on the quotient, row-each == each coefficient made of those above it, row-top == the top one
 -- remainder-cut, quotient-cut              == where the dividend is zero from cap on, its cap lowest coefficients may be divided in its place
@@ -64,6 +65,18 @@ module _ (R : CRing) where
   raised-high (suc g) q j =
       let e : suc g + j ≡ suc (g + j) = omega arith in
       ap (raised (suc g) q) e ∙ raised-high g q j
+
+  -- r's coefficients below g, and from g on q's
+  unfoldable pub joined : (g : ℕ) → Series R → Vec Car g → ℕ → Car
+  joined g q r k = raised g q k ⊕ coef 𝟘 g r k
+
+  pub joined-low : (g : ℕ) (q : Series R) (r : Vec Car g) (k : ℕ) → k < g → joined g q r k ≡ coef 𝟘 g r k
+  unfolding joined
+  joined-low g q r k l = ap (λ x. x ⊕ coef 𝟘 g r k) (raised-low g q k l) ∙ zero-⊕ R _
+
+  pub joined-high : (g : ℕ) (q : Series R) (r : Vec Car g) (j : ℕ) → joined g q r (g + j) ≡ q j
+  unfolding joined
+  joined-high g q r j = ap₂ _⊕_ (raised-high g q j) (coef-below 𝟘 g r (g + j) (omega arith)) ∙ ⊕-zero _
 
   -- the window at k of a polynomial of g coefficients looks only at what, raised by g, stands above k
   window-above : (g n : ℕ) (v a b : Series R) (k : ℕ) → ((j : ℕ) → k < g + j → j < n → a j ≡ b j) → window R g n v a k ≡ window R g n v b k
@@ -140,17 +153,16 @@ module _ (R : CRing) (g : ℕ) (w : Vec (R .Car) g) where
   -- ---- division in place
   -- the remainder's coefficients below g, and from g on the quotient's: the row that division in place leaves
   unfoldable pub row : (cap : ℕ) (f : ℕ → Car) → ℕ → Car
-  row cap f k = raised R g (quo cap (trunc cap f)) k ⊕ rem cap (trunc cap f) k
+  row cap f k = joined R g (quo cap (trunc cap f)) (remainder R g w cap (trunc cap f)) k
 
   -- its two parts
   pub row-low : (cap : ℕ) (f : ℕ → Car) (k : ℕ) → k < g → row cap f k ≡ coef 𝟘 g (remainder R g w cap (trunc cap f)) k
   unfolding row
-  row-low cap f k l = ap (λ x. x ⊕ rem cap (trunc cap f) k) (raised-low R g (quo cap (trunc cap f)) k l) ∙ zero-⊕ R _
+  row-low cap f k l = joined-low R g _ _ k l
 
   pub row-high : (cap : ℕ) (f : ℕ → Car) (j : ℕ) → row cap f (g + j) ≡ coef 𝟘 cap (quotient R g w cap (trunc cap f)) j
   unfolding row
-  row-high cap f j =
-      ap₂ _⊕_ (raised-high R g (quo cap (trunc cap f)) j) (coef-below 𝟘 g (remainder R g w cap (trunc cap f)) (g + j) (omega arith)) ∙ ⊕-zero _
+  row-high cap f j = joined-high R g _ _ j
 
   -- the quotient has no more than cap - g coefficients
   quo-below : (cap : ℕ) → g ≤ cap → (f : ℕ → Car) → Below 𝟘 (cap - g) (quo cap (trunc cap f))
@@ -158,7 +170,7 @@ module _ (R : CRing) (g : ℕ) (w : Vec (R .Car) g) where
 
   -- what the divisor without its leading 1 takes from a coefficient, and what is left of it
   taken : (cap : ℕ) (f : ℕ → Car) (k : ℕ) → k < cap → f k ≡ (coef 𝟘 g w *ˢ quo cap (trunc cap f)) k ⊕ row cap f k
-  unfolding row
+  unfolding row joined
   taken cap f k l =
       sym (trunc-at 𝟘 cap f k l)
       ∙ ap (λ s. s k) (divided R g w cap (trunc cap f))

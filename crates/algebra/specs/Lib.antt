@@ -9,6 +9,7 @@ pub mod UnitDivide
 pub mod Quotient
 pub mod Windows
 pub mod Divided
+pub mod UnitDivided
 pub mod Zmod
 pub mod Divisor
 pub mod PolyRing

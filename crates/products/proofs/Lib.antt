@@ -6,4 +6,5 @@ pub mod Dots
 pub mod Lowerings
 pub mod Fillings
 pub mod Remainders
+pub mod Units
 pub mod Products

@@ -1,3 +1,4 @@
 pub mod Value
 pub mod Product
 pub mod Lowest
+pub mod Unit

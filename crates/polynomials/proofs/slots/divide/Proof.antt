@@ -1,4 +1,4 @@
--- `arithmetic::slots::divide` meets its contract. Assumes nothing.
+-- `polynomials::slots::divide` meets its contract. Assumes nothing.
 use Prim.Native.Nat.{ℕ, _-_}
 use native.Mathlib.Omega.{arith}
 use mathlib.Core.Path.{ap}

@@ -1,4 +1,4 @@
--- `arithmetic::slots::divide_row` meets its contract. The loop has divided the row from k on. Assumes nothing.
+-- `polynomials::slots::divide_row` meets its contract. The loop has divided the row from k on. Assumes nothing.
 use Prim.Native.Nat.{ℕ, _*_}
 use native.Mathlib.Omega.{arith}
 use mathlib.Core.Path.{_≡_, refl, ap, _∙_}

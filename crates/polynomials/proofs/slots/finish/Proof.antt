@@ -1,4 +1,4 @@
--- `arithmetic::slots::finish` meets its contract. Assumes nothing.
+-- `polynomials::slots::finish` meets its contract. Assumes nothing.
 use Prim.Native.Nat.{ℕ, _+_, _*_}
 use mathlib.Core.Path.{_≡_, ap, _∙_}
 use native.Mathlib.Omega.{arith}

@@ -1,4 +1,4 @@
--- `arithmetic::slots::multiply` meets its contract. The loop has made the first j coefficients. Assumes nothing.
+-- `polynomials::slots::multiply` meets its contract. The loop has made the first j coefficients. Assumes nothing.
 use Prim.Native.Nat.{_-_}
 use native.Mathlib.Omega.{arith}
 use mir.Facts.{fits-le}

@@ -1,4 +1,4 @@
--- `arithmetic::slots::multiply_at` meets its contract. Assumes nothing.
+-- `polynomials::slots::multiply_at` meets its contract. Assumes nothing.
 use Prim.Native.Nat.{ℕ, _*_}
 use native.Mathlib.Omega.{arith}
 use mathlib.Core.Path.{_≡_, refl, ap, _∙_}

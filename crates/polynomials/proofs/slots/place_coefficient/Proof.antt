@@ -1,4 +1,4 @@
--- `arithmetic::slots::place_coefficient` meets its contract. Assumes nothing.
+-- `polynomials::slots::place_coefficient` meets its contract. Assumes nothing.
 use native.Mathlib.Omega.{arith}
 use Rattle.polynomials.proofs.Divides.{placed-low, placed-high}
 use borrow.Author.Needs.{needs}

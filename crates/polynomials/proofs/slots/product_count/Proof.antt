@@ -1,4 +1,4 @@
--- `arithmetic::slots::product_count` meets its contract. Assumes nothing.
+-- `polynomials::slots::product_count` meets its contract. Assumes nothing.
 use native.Mathlib.Omega.{arith}
 use Rattle.polynomials.proofs.Multiplies.{count-left, count-both}
 use borrow.Author.Needs.{needs}

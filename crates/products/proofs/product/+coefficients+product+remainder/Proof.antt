@@ -10,7 +10,7 @@ use Rattle.products.proofs.Frames.{pick-long}
 use Rattle.products.proofs.Lowests.{single-ready, single-done}
 use Rattle.products.proofs.Lowerings.{lowest-leaves, lowest-done}
 use Rattle.products.proofs.Fillings.{Filling, filling-places, filling-start, filling-at, filling-asks, filling-next, filling-end}
-use Rattle.products.proofs.Remainders.{Falling, falling-start, falling-places, falling-asks, falling-next, falling-end}
+use Rattle.products.proofs.Remainders.{counted, stood-now, falling-places, falling-left, falling-right, falling-here, falling-asks, RowFalling, row-start, row-next, row-end}
 use Rattle.products.proofs.Products.{some-of, suc-of, lower-is, product-lower, product-places, coefficients-asks, remainder-asks, leave-asks, product-leaves}
 use borrow.Author.Needs.{needs}
 use Prim.Native.Nat.{ℕ, _<_}
@@ -511,7 +511,7 @@ product-returns-3 t c =
 
 abbrev remainder-Inv-loop : remainder-lts.InvT-loop
 remainder-Inv-loop i d z p e e-in ea y y-in b g w₀ a cap top s m k₀ w k =
-    Falling i d p e e-in ea y y-in b g w₀ a cap top k w
+    RowFalling i d p e e-in ea y y-in b g w₀ a cap top k w
 
 abbrev remainder-μ-loop : remainder-lts.MeasureT-loop
 remainder-μ-loop i d z p e e-in ea y y-in b g w₀ a cap top s m k₀ w k = k
@@ -532,7 +532,7 @@ remainder-sub-k t c =
 remainder-loop-holds : (t : ℕ) → remainder-lts.Need-loop-holds (cs-remainder t) (remainder-at t) remainder.Post remainder-Inv-loop remainder-μ-loop
 remainder-loop-holds t c =
     let s = c .before in
-    falling-start (s .pre .1) refl
+    row-start (s .pre .1) refl
 
 -- src/product.rt:212:9
 remainder-sub-k-2 : (t : ℕ) → remainder-lts.Need-sub-k-2 (cs-remainder t) (remainder-at t) remainder.Post remainder-Inv-loop remainder-μ-loop
@@ -562,7 +562,11 @@ remainder-part-at-requires t c κs =
     let loop = c .before .before .loop in
     let loop-test = c .before .loop-test in
     let first-of = c .first-of in
-    omega (arith, part-is (s .args .b + first-of .result * size-at .result) (s .args .b) (first-of .result) (size-at .result) refl (first-of .ensures) (size-at .ensures ∙ s .pre .1 .sized .at (s .args .i) (s .pre .1 .low)), falling-places (s .pre .1) (loop-test .taken) (loop .inv), pick-long (s .args .y-in) (s .args .w .now) (s .args .y .now) (2 ^ 63) (omega (arith, s .good)) (omega (arith, s .good)))
+    omega (
+      arith,
+      falling-left (s .pre .1) (loop-test .taken) (loop .inv) (size-at .ensures ∙ s .pre .1 .sized .at (s .args .i) (s .pre .1 .low)) (first-of .ensures),
+      pick-long (s .args .y-in) (s .args .w .now) (s .args .y .now) (2 ^ 63) (omega (arith, s .good)) (omega (arith, s .good)),
+    )
 
 -- src/product.rt:214:32
 remainder-first-of-requires-2 : (t : ℕ) → remainder-lts.Need-first-of-requires-2 (cs-remainder t) (remainder-at t) remainder.Post remainder-Inv-loop remainder-μ-loop
@@ -589,7 +593,7 @@ remainder-part-at-requires-2 t c κs =
     let loop = c .before .before .before .before .loop in
     let loop-test = c .before .before .before .loop-test in
     let first-of2 = c .first-of2 in
-    omega (arith, part-is (s .args .a + (s .args .g + first-of2 .result) * size-at .result) (s .args .a) (s .args .g + first-of2 .result) (size-at .result) refl (ap (λ (x : ℕ). s .args .g + x) (first-of2 .ensures)) (size-at .ensures ∙ s .pre .1 .sized .at (s .args .i) (s .pre .1 .low)), falling-places (s .pre .1) (loop-test .taken) (loop .inv), s .good)
+    omega (arith, falling-right (s .pre .1) (loop-test .taken) (loop .inv) (size-at .ensures ∙ s .pre .1 .sized .at (s .args .i) (s .pre .1 .low)) (first-of2 .ensures), s .good)
 
 -- src/product.rt:215:28
 remainder-sub-span-of : (t : ℕ) → remainder-lts.Need-sub-span-of (cs-remainder t) (remainder-at t) remainder.Post remainder-Inv-loop remainder-μ-loop
@@ -612,7 +616,7 @@ remainder-part-at-requires-3 t c κs =
     let size-at = c .before .before .before .before .before .before .before .before .size-at in
     let loop = c .before .before .before .before .before .before .before .loop in
     let loop-test = c .before .before .before .before .before .before .loop-test in
-    omega (arith, part-is (s .args .a + (loop .k - 1) * size-at .result) (s .args .a) (loop .k - 1) (size-at .result) refl refl (size-at .ensures ∙ s .pre .1 .sized .at (s .args .i) (s .pre .1 .low)), falling-places (s .pre .1) (loop-test .taken) (loop .inv), s .good)
+    omega (arith, falling-here (s .pre .1) (loop-test .taken) (loop .inv) (size-at .ensures ∙ s .pre .1 .sized .at (s .args .i) (s .pre .1 .low)), s .good)
 
 -- src/product.rt:216:9
 remainder-product-requires : (t : ℕ) → remainder-lts.Need-product-requires (cs-remainder t) (remainder-at t) remainder.Post remainder-Inv-loop remainder-μ-loop
@@ -626,8 +630,12 @@ remainder-product-requires t c κs =
     let first-of2 = c .before .before .before .before .first-of2 in
     let part-at2 = c .before .before .before .part-at2 in
     let span-of = c .before .before .span-of in
-    let part-at3 = c .part-at3 in
-    (omega (arith, s .pre .0), falling-asks (s .pre .1) (loop-test .taken) (loop .inv) refl (part-is (part-at .result) (s .args .b) (first-of .result) (size-at .result) (part-at .ensures) (first-of .ensures) (size-at .ensures ∙ s .pre .1 .sized .at (s .args .i) (s .pre .1 .low))) (part-is (part-at2 .result) (s .args .a) (s .args .g + first-of2 .result) (size-at .result) (part-at2 .ensures) (ap (λ (x : ℕ). s .args .g + x) (first-of2 .ensures)) (size-at .ensures ∙ s .pre .1 .sized .at (s .args .i) (s .pre .1 .low))) (span-of .ensures) (part-is (part-at3 .result) (s .args .a) (loop .k - 1) (size-at .result) (part-at3 .ensures) refl (size-at .ensures ∙ s .pre .1 .sized .at (s .args .i) (s .pre .1 .low))))
+    let part-at3 = c .part-at3 in (
+      omega (arith, s .pre .0),
+      falling-asks (s .pre .1) (loop-test .taken) (loop .inv) (stood-now (s .pre .1)) refl
+          (counted (size-at .ensures ∙ s .pre .1 .sized .at (s .args .i) (s .pre .1 .low))
+          (part-at .ensures) (first-of .ensures) (part-at2 .ensures) (first-of2 .ensures) (span-of .ensures) (part-at3 .ensures)),
+    )
 
 -- src/product.rt:211:5
 remainder-loop-less : (t : ℕ) → remainder-lts.Need-loop-less (cs-remainder t) (remainder-at t) remainder.Post remainder-Inv-loop remainder-μ-loop
@@ -649,7 +657,9 @@ remainder-loop-again t c =
     let span-of = c .before .before .before .before .span-of in
     let part-at3 = c .before .before .part-at3 in
     let product = c .before .product in
-    falling-next (s .pre .1) (loop-test .taken) (loop .inv) refl (part-is (part-at .result) (s .args .b) (first-of .result) (size-at .result) (part-at .ensures) (first-of .ensures) (size-at .ensures ∙ s .pre .1 .sized .at (s .args .i) (s .pre .1 .low))) (part-is (part-at2 .result) (s .args .a) (s .args .g + first-of2 .result) (size-at .result) (part-at2 .ensures) (ap (λ (x : ℕ). s .args .g + x) (first-of2 .ensures)) (size-at .ensures ∙ s .pre .1 .sized .at (s .args .i) (s .pre .1 .low))) (span-of .ensures) (part-is (part-at3 .result) (s .args .a) (loop .k - 1) (size-at .result) (part-at3 .ensures) refl (size-at .ensures ∙ s .pre .1 .sized .at (s .args .i) (s .pre .1 .low))) (product .ensures)
+    row-next (s .pre .1) (loop-test .taken) (loop .inv) refl
+    (counted (size-at .ensures ∙ s .pre .1 .sized .at (s .args .i) (s .pre .1 .low))
+    (part-at .ensures) (first-of .ensures) (part-at2 .ensures) (first-of2 .ensures) (span-of .ensures) (part-at3 .ensures)) (product .ensures)
 
 -- src/product.rt:188:1
 remainder-same-length : (t : ℕ) → remainder-lts.Need-same-length (cs-remainder t) (remainder-at t) remainder.Post remainder-Inv-loop remainder-μ-loop
@@ -663,7 +673,7 @@ remainder-returns t c =
     let s = c .before .before .before in
     let loop = c .before .loop in
     let loop-test = c .loop-test in
-    falling-end (s .pre .1) (omega (arith, loop-test .left)) (loop .inv)
+    row-end (s .pre .1) (omega (arith, loop-test .left)) (loop .inv)
 
 pub +coefficients+product+remainder-spec : {M : Type 1} → statement M
 +coefficients+product+remainder-spec =
