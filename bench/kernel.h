@@ -1,5 +1,6 @@
 /* The C functions of the proved library, crate capi. Only this header knows their names. Unlike the baselines they
-   take whatever they are given, check all of it and clear the work words that they need. */
+   check every word that they are given and clear the work words that they need. Lists must be valid, and those that
+   are written must overlap no other. */
 #ifndef BENCH_KERNEL_H
 #define BENCH_KERNEL_H
 
