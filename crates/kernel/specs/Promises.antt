@@ -3,17 +3,18 @@
 --
 -- TowerChecked, SlotChecked, SizesGiven, FractionGiven, SumGiven, ProductGiven, DivisionGiven == the promises
 -- .. -determined == two results that a promise allows are equal
--- in-order == the tests of each call stand in the order of their numbers
-use mathlib.Core.Path.{_≡_, sym, _∙_}
+-- in-order == the tests of each call stand in the order of their numbers;  numbers-used == the numbers of sum, product and division
+use Prim.Native.Nat.{ℕ}
+use mathlib.Core.Path.{_≡_, refl, sym, _∙_}
 use mathlib.Core.Bool.{Bool}
-use mathlib.Core.List.{List}
+use mathlib.Core.List.{List, [], _∷_}
 use lib.IntN.{ℤ}
 use Rattle.kernel.specs.declared.Answer.{Answer}
 use Rattle.kernel.specs.declared.WorkSizes.{WorkSizes}
 use Rattle.kernel.specs.declared.FractionResidue.{FractionResidue}
 use Rattle.kernel.specs.Answers.{said, said-inj}
 use lib.Dec.{T}
-use Rattle.kernel.specs.Refusals.{ordered}
+use Rattle.kernel.specs.Refusals.{Table, ordered}
 use Rattle.kernel.specs.Calls.{towerTable, checkTower, slotTable, checkSlot, workTable, workSizes, fractionTable, fraction}
 use Rattle.kernel.specs.Sums.{sumTable, sum}
 use Rattle.kernel.specs.Products.{productTable, product}
@@ -105,4 +106,22 @@ in-order = record {
   sum = λ p n e t a b. tt;
   product = λ p n e t a b c v. tt;
   division = λ p n e t a b q v. tt;
+}
+
+-- the numbers of a table, in the order of its tests
+abbrev pub numbersOf : Table → List ℕ
+numbersOf [] = []
+numbersOf (row ∷ rows) = row .0 ∷ numbersOf rows
+
+-- "Numbers used: .. sum and difference 1 to 6; product 1 to 7; division 1 to 8"; number 2 has three tests
+pub record NumbersUsed : Type 0 where
+  pub sum : (p n : ℤ) (e t a b : List ℤ) → numbersOf (sumTable p n e t a b) ≡ 1 ∷ 2 ∷ 2 ∷ 2 ∷ 3 ∷ 4 ∷ 5 ∷ 6 ∷ []
+  pub product : (p n : ℤ) (e t a b c v : List ℤ) → numbersOf (productTable p n e t a b c v) ≡ 1 ∷ 2 ∷ 2 ∷ 2 ∷ 3 ∷ 4 ∷ 5 ∷ 6 ∷ 7 ∷ []
+  pub division : (p n : ℤ) (e t a b q v : List ℤ) → numbersOf (divisionTable p n e t a b q v) ≡ 1 ∷ 2 ∷ 2 ∷ 2 ∷ 3 ∷ 4 ∷ 5 ∷ 6 ∷ 7 ∷ 8 ∷ []
+
+pub numbers-used : NumbersUsed
+numbers-used = record {
+  sum = λ p n e t a b. refl;
+  product = λ p n e t a b c v. refl;
+  division = λ p n e t a b q v. refl;
 }
