@@ -68,7 +68,7 @@ pub fn keeps(keep: bool, k: usize, g: usize) -> bool
     false
 }
 
-// Whether the k-th of such coefficients is subtracted: all above g are.
+// Whether the k-th of such coefficients is subtracted: all from g on are.
 pub fn loses(neg: bool, k: usize, g: usize) -> bool
     ensures { λ r. ⌜ r ≡ losesAt neg k g ⌝ }
 {

@@ -1,5 +1,6 @@
-// The public calls for C: lists come as a pointer and a length, the four degrees as a pointer to four numbers, and the answer is a number: 0 is Done,
-// 1 to 99 a refusal's number, and from 100 on a shown factor's level plus 100. What each call does is the kernel's promise; here it is only told in numbers.
+// The public calls for C: lists come as a pointer and a length, the four degrees as a pointer to four numbers, and the answer is a number: 0 is Done, a
+// refusal is its own number, and a shown factor 100 and its level. What each call gives, refuses and writes is the kernel's promise; here it is only told in
+// numbers. Nothing checks a caller's pointers: lists must be valid, and one that is written must overlap no other.
 ghost use mathlib.Core.Path.{_≡_};
 ghost use Rattle.kernel.specs.Answers.{said};
 ghost use Rattle.capi.specs.Codes.{code, Plain, ProductCoded, DivisionCoded};
@@ -17,7 +18,7 @@ fn code_of(answer: Answer) -> usize
     }
 }
 
-// c := a · b.
+// c := a · b. Refuses 1 to 7. Writes c and the work store, nothing when refused.
 #[no_mangle]
 pub extern "C" fn mausvioline_product(
     p: i64,
@@ -36,7 +37,7 @@ pub extern "C" fn mausvioline_product(
     code_of(kernel::product(p, n, *degrees, tower, a, b, c, work))
 }
 
-// a := the remainder of a by b, q := the quotient.
+// a := the remainder of a by b, q := the quotient. Refuses 1 to 8. Writes a, q and the work store, nothing when refused.
 #[no_mangle]
 pub extern "C" fn mausvioline_division(
     p: i64,
