@@ -10,6 +10,7 @@
 -- division-refused, parted-done    == the promise;  division-plain == of numbers that went through a call
 use Rattle.kernel.proofs.Order.{then-first, then-next, zero-of}
 use Rattle.kernel.proofs.Shapes.{size-found, slot-words}
+use Rattle.kernel.proofs.Summing.{refused-by, done-by}
 use Rattle.kernel.proofs.Slotting.{slots-passed, count-low, tower-holds, a-holds, b-holds, a-long, c-long, slots-ready, work-fits, work-none, store-fits}
 use Rattle.kernel.proofs.Slotting.{put-whole, cleared-none, cleared-by}
 use Rattle.kernel.specs.Calls.{sizeOf, coefficientsOf, shapeTable, shapeNumber}
@@ -17,11 +18,11 @@ use Rattle.kernel.specs.Divisions.{divisorDegree, monicWords, monicRow, 
 use Rattle.kernel.specs.Divisions.{remainderOf, quotientOf, remainderWords, quotientWords, DivisionWords}
 use Rattle.kernel.specs.Meaning.{DegreesIn}
 use Rattle.kernel.specs.Promises.{DivisionGiven}
-use Rattle.kernel.specs.Refusals.{done, refused, unless, andThen, first-append, passed-of, first-of, ordered-numbered}
+use Rattle.kernel.specs.Refusals.{unless, andThen, first-append, passed-of, first-of, ordered-numbered}
 use Rattle.kernel.specs.Shape.{Known, ShapeOf}
 use Rattle.kernel.specs.SlotLaws.{Tested, tested}
 use Rattle.kernel.specs.SlotMeaning.{room-iff}
-use Rattle.kernel.specs.Slots.{degreeCount, polynomialOf, filled, slotsTable, slotsNumber, quotientRoom, cleared, changedBy}
+use Rattle.kernel.specs.Slots.{degreeCount, polynomialOf, filled, slotsTable, slotsNumber, quotientRoom, cleared}
 use Rattle.kernel.specs.declared.Shape.{Shape}
 use Rattle.kernel.specs.declared.Answer.{Answer}
 use Rattle.kernel.specs.declared.Answer.the-variants.{Done, Refused}
@@ -47,7 +48,7 @@ use mathlib.Core.Path.{_≡_, refl, sym, ap, ap₂, _∙_, subst, subst₂, subs
 use mathlib.Core.Bool.{Bool, true, false}
 use mathlib.Core.List.{List, [], _∷_}
 use Prim.Native.Nat.{ℕ, zero, suc, _+_, _-_, _*_, _^_, _<_, _≤_}
-use native.Mathlib.Nat.{lt-irrefl, suc-mul, mul-le-mul-right}
+use native.Mathlib.Nat.{suc-mul, mul-le-mul-right}
 use native.Mathlib.Omega.{arith}
 use lib.IntN.{ℤ, pos}
 use lib.Dec.{T, leb, leb→le, eqb}
@@ -195,16 +196,6 @@ module _ (p n : ℤ) (e t a b q v : List ℤ) where
             then-next (slotsNumber true p n e t a b q v) (unless monic 8 0) r (unless x 8 0) er h (ap (λ y. unless y 8 0) same) ∙ sym division-is
 
 -- ---- the promise
--- a refusal leaves all as found
-refused-by : {A : Type 0} (k r : ℕ) (new old : A) → r ≡ k → 0 < r → record { said = refused r; words = old } ≡ changedBy k new old
-refused-by zero r new old e h = absurd (lt-irrefl 0 (omega arith))
-refused-by (suc k) r new old e h = λ i. record { said = refused (e i); words = old }
-
--- no number: all is new
-done-by : {A : Type 0} (k r : ℕ) (new old : A) → r ≡ k → r ≤ 0 → record { said = done; words = new } ≡ changedBy k new old
-done-by zero r new old e h = refl
-done-by (suc k) r new old e h = absurd (lt-irrefl 0 (omega arith))
-
 module _ (p n : ℤ) (e t a b q v : List ℤ) (r : ℕ) (er : r ≡ divisionNumber p n e t a b q v) where
   -- the words as found
   abbrev old : DivisionWords
@@ -222,7 +213,7 @@ module _ (p n : ℤ) (e t a b q v : List ℤ) (r : ℕ) (er : r ≡ divisionNumb
   pub division-refused : 0 < r → DivisionGiven p n e t a b q v (Refused r) a q v
   division-refused h =
       let c = refused-by (divisionNumber p n e t a b q v) r new old er h in
-      record { answer = ap (λ x. x .said) c; remainder = ap (λ x. x .words .remainder) c; quotient = ap (λ x. x .words .quotient) c; work = ap (λ x. x .words .work) c }
+      record { answer = c .0; remainder = ap (λ w. w .remainder) (c .1); quotient = ap (λ w. w .quotient) (c .1); work = ap (λ w. w .work) (c .1) }
 
   -- the promise, after Done
   division-done : r ≤ 0 → (a′ q′ v′ : List ℤ) → a′ ≡ remainderWords p n e t a b → q′ ≡ quotientWords p n e t a b q
@@ -230,10 +221,10 @@ module _ (p n : ℤ) (e t a b q v : List ℤ) (r : ℕ) (er : r ≡ divisionNumb
   division-done h a′ q′ v′ ea eq ev =
       let c = done-by (divisionNumber p n e t a b q v) r new old er h in
       record {
-        answer = ap (λ x. x .said) c;
-        remainder = ea ∙ ap (λ x. x .words .remainder) c;
-        quotient = eq ∙ ap (λ x. x .words .quotient) c;
-        work = ev ∙ ap (λ x. x .words .work) c;
+        answer = c .0;
+        remainder = ea ∙ ap (λ w. w .remainder) (c .1);
+        quotient = eq ∙ ap (λ w. w .quotient) (c .1);
+        work = ev ∙ ap (λ w. w .work) (c .1);
       }
 
 -- ---- what `divide` asks for and leaves, where every test has passed
