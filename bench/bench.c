@@ -1,6 +1,7 @@
 /* Times product and division of the proved library beside the two baselines (README.md says what and how).
    The table goes to standard output, the progress to standard error. Exit status: 0 when all three gave the same
-   words, whether the targets are reached or not; 1 when they did not, or when the library refused a call. */
+   words, whether the targets are reached or not; 1 when they did not, when the library refused one of their calls, or
+   when it did not refuse what it must. */
 #define _POSIX_C_SOURCE 200809L
 #include "calls.h"
 #include "kernel.h"
@@ -209,6 +210,38 @@ static void refused(const struct contender *who, int operation, int64_t number)
     fail(who, operation, what);
 }
 
+/* Calls of the library over p = 7, m_1 = z^2 + 5, each with one thing wrong: p, the word of the divisor's leading
+   coefficient, or the work words; and the number that must be given. Nothing else is wrong: 7, 1 and 8 are done. */
+static const struct refusal {
+    int operation;
+    int64_t p, leading;
+    size_t work_len, number;
+} refusals[] = {
+    {PRODUCT, 1, 1, 8, 1},  {PRODUCT, 7, 1, 7, 7},  {DIVISION, 1, 1, 8, 1},
+    {DIVISION, 7, 1, 7, 7}, {DIVISION, 7, 2, 8, 8},
+};
+
+/* Ends the program where such a call gives another number, or changes a word that is lent to it. */
+static void check_refusals(void)
+{
+    for (size_t i = 0; i < sizeof refusals / sizeof refusals[0]; i++) {
+        const struct refusal *r = &refusals[i];
+        struct {
+            int64_t degrees[4], tower[4], a[7], b[7], c[10], work[8];
+        } x = {{2}, {2, 5, 0, 1}, {1, 1, 0, 1, 0, 3, 0}, {1, 0, 1, 0, 0, r->leading, 0}, {9, 9, 9}, {9, 9, 9}}, y = x;
+        const size_t number =
+            r->operation == PRODUCT
+                ? kernel.product(r->p, 1, x.degrees, x.tower, 4, x.a, 7, x.b, 7, x.c, 10, x.work, r->work_len)
+                : kernel.division(r->p, 1, x.degrees, x.tower, 4, x.a, 7, x.b, 7, x.c, 10, x.work, r->work_len);
+        if (number == r->number && memcmp(&x, &y, sizeof x) == 0)
+            continue;
+        fprintf(stderr, "%s, p = %d, leading word %d, %zu work words: %zu for %zu, lent words %s\n",
+                operations[r->operation], (int)r->p, (int)r->leading, r->work_len, number, r->number,
+                memcmp(&x, &y, sizeof x) == 0 ? "kept" : "changed");
+        exit(1);
+    }
+}
+
 /* The seconds of one call, the mean of so many in a row. The answer slots are spoilt before and compared after. */
 static double sample(const struct contender *who, int operation, long calls)
 {
@@ -341,10 +374,11 @@ static void print_target(const struct target *target)
            target->against == TUNED ? 1 / worst : worst, operations[worst_operation], label(&loads[worst_row]));
 }
 
-/* Measures, then prints the table and the targets. */
+/* Sees that the library refuses, measures, then prints the table and the targets. */
 int main(void)
 {
     alarm(LONGEST_RUN);
+    check_refusals();
     measure_all();
     print_header();
     for (int row = 0; row < LOADS; row++)

@@ -1,3 +1,4 @@
 pub mod Tops
 pub mod Gains
 pub mod Walks
+pub mod LineSums

@@ -1,12 +1,13 @@
 -- Laws of the sums of products: of `total`, of what a loop has added, and of one level of the walk. Assumes nothing.
 --
--- total-swap                        == the two sums of a double sum exchanged
+-- grid-swap                         == rows and columns of a sum over two places exchanged
 -- product-small                     == a product of two words that may be read fits a word
 -- Folded                            == k of n terms are added, each by w folds
 -- folded-start, -room, -next, -end  == none is; room for the next; one more; all of them
 -- residues-zero, residues-suc       == what `Residues` says at level 0, and above
 -- dots-place, rows-place            == where a row starts is inside
 -- dots-turn, rows-turn              == what a row asks for
+-- dots-are-rows                     == the sum over rows of pairs of words as one over pairs of level 0
 -- dot-ready, dots-ready; dot-up, dots-up == pairs of level 0 are pairs of words; and so is their sum
 -- run-rows, run-columns             == the sum over pairs of level h + 1 as one over rows of pairs of level h, by either way through the window
 -- Window                            == what the code computes of the window at level h + 1
@@ -20,7 +21,7 @@ use mathlib.Core.Bool.{Bool, true, false}
 use mathlib.Core.List.{List}
 use mathlib.Core.Logic.{_↔_}
 use Prim.Native.Nat.{ℕ, zero, suc, _+_, _-_, _*_, _^_, _<_, _≤_}
-use native.Mathlib.Nat.{zero-mul, suc-mul, mul-one, mul-left-comm, mul-le-mul, mul-le-mul-left, mul-le-mul-right, le-mul-of-pos-right}
+use native.Mathlib.Nat.{add-right-comm, zero-mul, suc-mul, mul-one, mul-left-comm, mul-le-mul, mul-le-mul-left, mul-le-mul-right, le-mul-of-pos-right}
 use native.Mathlib.Numerals.{add-one}
 use native.Mathlib.Omega.{arith}
 use lib.IntN.{ℤ}
@@ -48,6 +49,15 @@ total-swap zero n h = total-zero (λ u. total n (h u)) ∙ sym (ap (total n) (fu
 total-swap (suc m) n h =
     total-suc m (λ u. total n (h u)) ∙ ap (λ t. t + total n (h m)) (total-swap m n h) ∙ sym (total-add n (λ v. total m (λ u. h u v)) (h m))
     ∙ sym (ap (total n) (fun-ext (λ v. total-suc m (λ u. h u v))))
+
+-- of terms that look at two places: rows and columns exchanged
+pub grid-swap : (h : ℕ → ℕ → ℕ) (rows apart n step a b : ℕ)
+    → total rows (λ o. total n (λ u. h (a + o * apart + u * step) (b + (rows - 1 - o) * apart + (n - 1 - u) * step)))
+    ≡ total n (λ u. total rows (λ o. h (a + u * step + o * apart) (b + (n - 1 - u) * step + (rows - 1 - o) * apart)))
+grid-swap h rows apart n step a b =
+    total-swap rows n (λ o u. h (a + o * apart + u * step) (b + (rows - 1 - o) * apart + (n - 1 - u) * step))
+    ∙ ap (total n) (fun-ext (λ u. ap (total rows) (fun-ext (λ o.
+    ap₂ h (add-right-comm a (o * apart) (u * step)) (add-right-comm b ((rows - 1 - o) * apart) ((n - 1 - u) * step))))))
 
 -- ---- two words
 pub product-small : {x : List ℤ} {a : ℕ} {y : List ℤ} {b u v : ℕ} → Readable x a → Readable y b → u ≡ at x a → v ≡ at y b → u * v < 2 ^ 64
@@ -136,6 +146,10 @@ one-word d n = ap (λ s. n * s) (size-zero d) ∙ mul-one n
 dot-is-run : (d m : List ℕ) (x y : List ℤ) (n step a b : ℕ) → dotAt x y n step a b ≡ runAt d m x y 0 n step a b
 dot-is-run d m x y n step a b = ap (total n) (fun-ext (λ u. sym (pairAt-zero d m x y (a + u * step) (b + (n - 1 - u) * step))))
 
+pub dots-are-rows : (d m : List ℕ) (x y : List ℤ) (rows apart n step a b : ℕ) → dotsAt x y rows apart n step a b ≡ rowsAt d m x y 0 rows apart n step a b
+dots-are-rows d m x y rows apart n step a b =
+    ap (total rows) (fun-ext (λ o. dot-is-run d m x y n step (a + o * apart) (b + (rows - 1 - o) * apart)))
+
 module _ {d z m : List ℕ} {i : ℕ} {x : List ℤ} {a : ℕ} {y : List ℤ} {b n step lo hi : ℕ} (e : i ≡ 0) where
   pub dot-ready : WalkReady d z m i x a y b n step lo hi → DotReady x a y b n step lo hi
   dot-ready p = go (subst (λ j. WalkReady d z m j x a y b n step lo hi) e p)
@@ -171,9 +185,7 @@ pub dots-up : (d m : List ℕ) (i : ℕ) (x y : List ℤ) (rows apart n step a b
 dots-up d m i x y rows apart n step a b lo hi l t e r =
     subst (λ j. Added (rows * (n * size d j)) (rowsAt d m x y j rows apart n step a b) lo hi l t) (sym e)
     (rw (one-word d n)
-    (subst (λ v. Added (rows * n) v lo hi l t)
-    (ap (total rows) (fun-ext (λ o. dot-is-run d m x y n step (a + o * apart) (b + (rows - 1 - o) * apart))))
-    r))
+    (subst (λ v. Added (rows * n) v lo hi l t) (dots-are-rows d m x y rows apart n step a b) r))
 
 -- ---- one level up: the pairs of coefficients that meet at a place, as rows or as columns
 address : (a v step f u s : ℕ) → a + v * step + 1 + (f + u) * s ≡ a + 1 + f * s + v * step + u * s
@@ -183,7 +195,7 @@ address-across : (a v step f u s : ℕ) → a + v * step + 1 + (f + u) * s ≡ a
 address-across a v step f u s = omega arith
 
 module _ (d m : List ℕ) (x y : List ℤ) (h n step a b : ℕ) where
-  run-rows : runAt d m x y (suc h) n step a b
+  pub run-rows : runAt d m x y (suc h) n step a b
       ≡ rowsAt d m x y h n step (spanOf d m h) (size d h) (a + 1 + firstOf d m h * size d h) (b + 1 + firstOf d m h * size d h)
   run-rows = ap (total n) (fun-ext (λ v.
       pairAt-suc d m x y h (a + v * step) (b + (n - 1 - v) * step)
@@ -194,15 +206,7 @@ module _ (d m : List ℕ) (x y : List ℤ) (h n step a b : ℕ) where
   run-columns : runAt d m x y (suc h) n step a b
       ≡ rowsAt d m x y h (spanOf d m h) (size d h) n step (a + 1 + firstOf d m h * size d h) (b + 1 + firstOf d m h * size d h)
   run-columns =
-      ap (total n) (fun-ext (λ v.
-      pairAt-suc d m x y h (a + v * step) (b + (n - 1 - v) * step)
-      ∙ ap (total (spanOf d m h)) (fun-ext (λ u.
-      ap₂ (pairAt d m x y h) (address-across a v step (firstOf d m h) u (size d h))
-      (address-across b (n - 1 - v) step (firstOf d m h) (spanOf d m h - 1 - u) (size d h))))))
-      ∙ total-swap n (spanOf d m h) (λ v u.
-      pairAt d m x y h
-      (a + 1 + firstOf d m h * size d h + u * size d h + v * step)
-      (b + 1 + firstOf d m h * size d h + (spanOf d m h - 1 - u) * size d h + (n - 1 - v) * step))
+      run-rows ∙ grid-swap (pairAt d m x y h) n step (spanOf d m h) (size d h) (a + 1 + firstOf d m h * size d h) (b + 1 + firstOf d m h * size d h)
 
 -- a coefficient of the window is one of the element's
 in-window : (g k u : ℕ) → u < span g g k → first g k + u < g

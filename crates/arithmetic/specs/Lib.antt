@@ -2,3 +2,4 @@ pub mod Rows
 pub mod Sum
 pub mod Places
 pub mod Walk
+pub mod Line

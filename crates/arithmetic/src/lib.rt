@@ -1,5 +1,6 @@
 // Arithmetic on written elements and slots, in one store of words with places: what a function leaves is said for whatever elements stood in the words.
-// Sums and differences are in `sum`; `walk` sums the products of residues that a product of elements is made of.
+// Sums and differences are in `sum`; `walk` sums the products of residues that a product of elements is made of, `lines` those of level 1.
+pub mod lines;
 pub mod places;
 pub mod rows;
 pub mod sum;

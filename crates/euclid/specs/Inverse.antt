@@ -1,7 +1,7 @@
 -- The inverse one level up: "For c in R_i: the same sequence on m_i and c over R_(i-1), c made monic first. If it ends in a polynomial of degree 1 or more,
 -- this is shown as a factor at level i; if it ends in 1, the inverse is given."
 --
--- elements    == carried beside each polynomial f of the sequence: an element x with f = x c modulo m
+-- elements    == carried beside each polynomial f of the sequence: an element x with f = x c modulo m;  residue-scale == a constant times an element
 -- inverse     == the inverse in the residue ring of a level by m
 -- inverse-ok  == it promises what the level below promises: u with u c = 1, or a factor that is right
 -- above, above-good == the level above
@@ -35,6 +35,11 @@ module _ (L : Level) (d : ℕ) (m : Vec (L .ring .Car) d) where
 
   abbrev Q : CRing
   Q = Quotient (L .ring) d m
+
+  -- the residue of a constant times an element
+  pub residue-scale : (a : Car) (x : Vec Car d) → Q ._⊗_ (residue R d m (constᴾ R a)) x ≡ scaleᵛ R d a x
+  residue-scale a x =
+      mul-l R d m (constᴾ R a) x ∙ residue-is R d m (same R d m (λ i n. (const-* R a (coef 𝟘 d x) n ∙ sym (coef-scale R d a x n)) i))
 
   abbrev pub elements : Carry (L .ring .Car)
   elements = record {
@@ -91,9 +96,7 @@ module _ (L : Level) (d : ℕ) (m : Vec (L .ring .Car) d) where
     res x = residueʰ R d m .fun x
 
     res-con : (a : Car) (x : Qᶜ) → res (con R a) *ᵠ x ≡ scaleᵛ R d a x
-    res-con a x =
-        ap (λ y. y *ᵠ x) (residueʰ-poly R d m (constᴾ R a)) ∙ mul-l R d m (constᴾ R a) x
-        ∙ residue-is R d m (same R d m (λ i n. (const-* R a (coef 𝟘 d x) n ∙ sym (coef-scale R d a x n)) i))
+    res-con a x = ap (λ y. y *ᵠ x) (residueʰ-poly R d m (constᴾ R a)) ∙ residue-scale a x
 
     -- one turn, among the residues
     res-turn : (n : ℕ) (v : Vec Car n) (j : ℕ) (w : Vec Car j) (e : ℕ) (u : Vec Car e) (c i : Car) → Turned B (elements) n v j w e u c i

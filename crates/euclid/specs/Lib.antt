@@ -7,6 +7,10 @@ pub mod Inverse
 pub mod Gcd
 pub mod Demand
 pub mod Towers
+pub mod Shown
 pub mod Free
 pub mod Figures
 pub mod Steps
+pub mod Lazy
+pub mod LazyInverse
+pub mod One

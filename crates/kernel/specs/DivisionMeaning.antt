@@ -2,7 +2,7 @@
 -- needed. A and B are the coefficients that a and b held; Q and R those that q and a hold afterwards.
 --
 -- monic-iff                       == number 8 is kept away precisely where b is not zero and its leading coefficient is 1
--- division-blind                  == "Contents of answer slots .. and work store are not tested."
+-- division-blind                  == "Contents of answer slots .. and work store are not tested.";  division-numbers == no number above 8 is given
 -- division-tower                  == where no number is given t is the words of exactly one tower, and p is in range;  division-ring == its topmost ring is
 --                                    computed in
 -- remainder-words, quotient-words == a's slot afterwards is filled with the remainder, q's with the quotient;  .. -written == the whole of each, in form
@@ -11,14 +11,15 @@
 -- remainder-below                 == R is zero from the degree of B on
 -- only-quotient, only-remainder   == no other polynomials are so
 -- division-work                   == the work store afterwards
+-- DivisionSame                    == what two runs share whose q and work stores have the same lengths;  division-same == that they do
 use Prim.Native.Nat.{ℕ, zero, suc, _+_, _≤_, _<_}
 use native.Mathlib.Omega.{arith}
 use mathlib.Core.Path.{_≡_, refl, sym, ap, _∙_, fun-ext}
 use mathlib.Core.List.{List, [], _∷_}
 use mathlib.Core.Logic.{_⊎_, inl, inr, _↔_}
-use lib.IntN.{ℤ}
+use lib.IntN.{ℤ, pos}
 use lib.Dec.{T, leb, leb→le, le→leb}
-use lib.ListN.{length}
+use lib.ListN.{length, getD}
 use Rattle.algebra.specs.Divide.{divided, unique-quotient, unique-remainder, quotient-below, remainder-small}
 use Rattle.algebra.specs.Poly.{crown}
 use Rattle.algebra.specs.Ring.{CRing}
@@ -33,11 +34,12 @@ use Rattle.tower.specs.Lists.{same-sound, same-eq}
 use Rattle.tower.specs.Work.{productWork}
 use Rattle.kernel.specs.Calls.{sizeOf, coefficientsOf, formOk}
 use Rattle.kernel.specs.Meaning.{InRange, TowerHeld}
-use Rattle.kernel.specs.Refusals.{passed-of, ordered-numbered}
-use Rattle.kernel.specs.SlotLaws.{Tested, tested, ring-held, Written, held-below, held-few, held-one, filled-written, filled-holds, Cleared, cleared-words}
-use Rattle.kernel.specs.Slots.{quotientRoom, degreeCount, polynomialOf, coefficientsIn, filled, topRing}
+use Rattle.kernel.specs.Refusals.{done, refusal, passed-of, ordered-numbered, first-up-to}
+use Rattle.kernel.specs.SlotLaws.{Tested, tested, ring-held, Written, held-below, held-few, held-one, slot-written, filled-holds, Cleared, cleared-words}
+use Rattle.kernel.specs.SlotLaws.{changed-said, changed-zero, changed-same, filled-same}
+use Rattle.kernel.specs.Slots.{quotientRoom, degreeCount, polynomialOf, coefficientsIn, filled, topRing, Changed}
 use Rattle.kernel.specs.Divisions.{divisorDegree, leadingWords, monicRow, divisionTable, divisionNumber, divisorOf, remainderOf, quotientOf}
-use Rattle.kernel.specs.Divisions.{remainderWords, quotientWords, division}
+use Rattle.kernel.specs.Divisions.{remainderWords, quotientWords, DivisionWords, division}
 
 -- the first d coefficients of f and the next above them
 topped-trunc : {A : Type 0} (d : ℕ) (f : ℕ → A) → topped d (trunc d f) (f d) ≡ trunc (suc d) f
@@ -67,6 +69,11 @@ pub division-blind : (p n : ℤ) (e t a b q q′ v v′ : List ℤ) → length q
     → divisionNumber p n e t a b q v ≡ divisionNumber p n e t a b q′ v′
 unfolding divisionNumber
 division-blind p n e t a b q q′ v v′ h k = rw (h, k)
+
+-- no number above 8 is given
+pub division-numbers : (p n : ℤ) (e t a b q v : List ℤ) → divisionNumber p n e t a b q v ≤ 8
+unfolding divisionNumber
+division-numbers p n e t a b q v = first-up-to 8 (divisionTable p n e t a b q v) tt
 
 module _ (p n : ℤ) (e t a b q v : List ℤ) (h : divisionNumber p n e t a b q v ≡ 0) where
   tests : Tested p n e t a b q v (quotientRoom (degreeCount a) (degreeCount b)) (monicRow n e b ∷ [])
@@ -118,10 +125,10 @@ module _ (p n : ℤ) (e t a b q v : List ℤ) (h : divisionNumber p n e t a b q 
   quotient-words = rw h (branch-yes (pOk p) (λ m. filled p n e q (quotientOf p n e t a b m)) (λ _. q) division-modulus)
 
   pub remainder-written : Written p n e a (division p n e t a b q v .words .remainder)
-  remainder-written = rw remainder-words (filled-written p n e division-modulus a _ (tests .long-a))
+  remainder-written = rw remainder-words (slot-written p n e division-modulus a _ (tests .long-a))
 
   pub quotient-written : Written p n e q (division p n e t a b q v .words .quotient)
-  quotient-written = rw quotient-words (filled-written p n e division-modulus q _ (tests .long-c))
+  quotient-written = rw quotient-words (slot-written p n e division-modulus q _ (tests .long-c))
 
   -- ---- the divisor
   not-zero : 1 ≤ degreeCount b
@@ -195,3 +202,41 @@ module _ (p n : ℤ) (e t a b q v : List ℤ) (h : divisionNumber p n e t a b q 
 
   pub division-work : Cleared (productWork (degreesOf e) (num n)) v (division p n e t a b q v .words .work)
   division-work = rw h (cleared-words (productWork (degreesOf e) (num n)) v (tests .work))
+
+-- ---- "The entry contents of the work store change no answer and no other word."; nor do those of q: two runs, with q and q′, v and v′ of the same lengths
+module _ (p n : ℤ) (e t a b q q′ v v′ : List ℤ) where
+  abbrev pub run : Changed DivisionWords
+  run = division p n e t a b q v
+
+  abbrev pub run′ : Changed DivisionWords
+  run′ = division p n e t a b q′ v′
+
+  pub record DivisionSame : Type 0 where
+    -- the answer
+    pub answer : run .said ≡ run′ .said
+    -- the words of a's slot, with a number too
+    pub remainder : run .words .remainder ≡ run′ .words .remainder
+    -- the words of the quotient's slot after Done, whatever q and q′ were
+    pub quotient : run .said ≡ done → run .words .quotient ≡ run′ .words .quotient
+    -- and where q and q′ were the same, with a number too
+    pub kept : q ≡ q′ → run .words .quotient ≡ run′ .words .quotient
+    -- the work words that are needed, after Done
+    pub work : run .said ≡ done → (k : ℕ) → k < productWork (degreesOf e) (num n) → getD (run .words .work) k (pos 0) ≡ getD (run′ .words .work) k (pos 0)
+
+  pub division-same : length q ≡ length q′ → length v ≡ length v′ → DivisionSame
+  division-same h l = record {
+    answer = changed-said (divisionNumber p n e t a b q v) _ _ ∙ ap refusal number ∙ sym (changed-said (divisionNumber p n e t a b q′ v′) _ _);
+    remainder = changed-same (λ (w : DivisionWords). w .remainder) _ _ _ _ _ _ number refl refl;
+    quotient = λ d.
+        quotient-words p n e t a b q v (zero-of d)
+        ∙ filled-same p n e q q′ (quotientOf p n e t a b) _ _ h
+        ∙ sym (quotient-words p n e t a b q′ v′ (sym number ∙ zero-of d));
+    kept = λ x. changed-same (λ (w : DivisionWords). w .quotient) _ _ _ _ _ _ number (ap (quotientWords p n e t a b) x) x;
+    work = λ d i g. division-work p n e t a b q v (zero-of d) .below i g ∙ sym (division-work p n e t a b q′ v′ (sym number ∙ zero-of d) .below i g);
+  }
+    where
+      number : divisionNumber p n e t a b q v ≡ divisionNumber p n e t a b q′ v′
+      number = division-blind p n e t a b q q′ v v′ h l
+
+      zero-of : run .said ≡ done → divisionNumber p n e t a b q v ≡ 0
+      zero-of = changed-zero (divisionNumber p n e t a b q v) _ _

@@ -4,6 +4,10 @@ pub mod Slots
 pub mod Sums
 pub mod Products
 pub mod Divisions
+pub mod Views
+pub mod Answered
+pub mod Inverses
+pub mod Gcds
 pub mod Answers
 pub mod Shape
 pub mod Fractions
@@ -13,7 +17,11 @@ pub mod SlotMeaning
 pub mod FractionMeaning
 pub mod WorkMeaning
 pub mod SlotLaws
+pub mod SlotAnswers
 pub mod SumMeaning
+pub mod SumAnswers
 pub mod ProductMeaning
+pub mod ProductAnswers
 pub mod DivisionMeaning
+pub mod DivisionAnswers
 pub mod Figures

@@ -7,9 +7,10 @@
 -- shape-out         == N and the degrees out of range give number 2
 -- tower-says        == a number that is given comes under its condition;  tower-given == and under its condition it is given
 -- tower-answers     == the same of what the call says
+-- tower-behind      == the number where other tests stand behind those of a tower;  then-says, then-given == what it says
 -- tower-passes      == the words of every tower in range get no number;  tower-numbers == no number above 3 is given
 use Prim.Native.Nat.{ℕ, zero, suc, _<_, _≤_}
-use mathlib.Core.Path.{_≡_, refl, ap, subst}
+use mathlib.Core.Path.{_≡_, refl, sym, ap, _∙_, subst}
 use mathlib.Core.Bool.{true, not}
 use mathlib.Core.Logic.{_↔_, inl, inr}
 use mathlib.Core.List.{List, [], _∷_, _++_}
@@ -27,7 +28,7 @@ use Rattle.tower.specs.Lists.{to-true}
 use Rattle.tower.specs.Limits.{pOk, p-two, p-positive, levelsOk, degreeIn, degreesOk, degreesOf, sizeOk, size-few, few-size}
 use Rattle.tower.specs.Unique.{Exactly}
 use Rattle.tower.specs.TowerUnique.{tower-iff, tower-good}
-use Rattle.kernel.specs.Refusals.{refusal, refusal-inj, Table, Numbered, passed-of, first-of, Applies, first-applies, first-is}
+use Rattle.kernel.specs.Refusals.{refusal, refusal-inj, Table, first, andThen, first-append, Numbered, passed-of, first-of, Applies, first-applies, first-is, first-up-to}
 use Rattle.kernel.specs.Calls.{shapeTable, towerRow, towerTable, towerNumber, checkTower}
 
 -- N and the degrees are in range
@@ -158,16 +159,32 @@ module _ (p n : ℤ) (e t : List ℤ) where
   pub tower-answers : (k : ℕ) → (checkTower p n e t ≡ refusal k) ↔ TowerMeans p n e t k
   tower-answers k = (λ h. tower-says k (refusal-inj (towerNumber p n e t) k h), λ m. ap refusal (tower-given k m))
 
+  -- ---- other tests behind those of a tower
+  module _ (rows : Table) where
+    pub tower-behind : first (towerTable p n e t ++ rows) ≡ andThen (towerNumber p n e t) (first rows)
+    unfolding towerNumber
+    tower-behind = first-append (towerTable p n e t) rows tower-numbered
+
+    -- the number comes under its condition M, if 1 to 3 say what they say of a tower, and M holds of what the other tests give over a tower
+    pub then-says : (M : ℕ → Type 0)
+        → (TowerMeans p n e t 1 → M 1) → (TowerMeans p n e t 2 → M 2) → (TowerMeans p n e t 3 → M 3) → (TowerHeld p n e t → M (first rows))
+        → M (first (towerTable p n e t ++ rows))
+    then-says M one two three rest = subst M (sym tower-behind) (go (towerNumber p n e t) (tower-says (towerNumber p n e t) refl))
+      where
+        go : (x : ℕ) → TowerMeans p n e t x → M (andThen x (first rows))
+        go zero h = rest h
+        go (suc zero) h = one h
+        go (suc (suc zero)) h = two h
+        go (suc (suc (suc zero))) h = three h
+
+    pub then-given : (j : ℕ) → TowerMeans p n e t j → first (towerTable p n e t ++ rows) ≡ andThen j (first rows)
+    then-given j h = tower-behind ∙ ap (λ x. andThen x (first rows)) (tower-given j h)
+
 -- the words of every tower in range get no number
 pub tower-passes : (p n : ℤ) (e : List ℤ) (r : InRange p n e) (τ : TowerOf p n e) → towerNumber p n e (wordsOf p n e (r .modulus) τ) ≡ 0
 tower-passes p n e r τ = tower-given p n e _ 0 (record { range = r; held = form-held p n e r (wordsOf p n e (r .modulus) τ) .0 (form-words p n e r τ) })
 
 -- no other number is given
 pub tower-numbers : (p n : ℤ) (e t : List ℤ) → towerNumber p n e t ≤ 3
-tower-numbers p n e t = used (towerNumber p n e t) (tower-says p n e t (towerNumber p n e t) refl)
-  where
-    used : (k : ℕ) → TowerMeans p n e t k → k ≤ 3
-    used zero h = omega arith
-    used (suc zero) h = omega arith
-    used (suc (suc zero)) h = omega arith
-    used (suc (suc (suc zero))) h = omega arith
+unfolding towerNumber
+tower-numbers p n e t = first-up-to 3 (towerTable p n e t) tt

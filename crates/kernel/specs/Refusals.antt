@@ -6,6 +6,7 @@
 -- refusal, refusal-inj        == the answer that a number is, and that it tells the number
 -- ordered                     == the rows stand in the order of their numbers;  ordered-numbered == from 1 on, so none of them is 0
 -- first-append                == two tables, one behind the other
+-- upTo, first-up-to           == no number of the table is above m;  then none above m is given
 -- passed-of, first-of         == no number is given exactly where every test passes
 -- first-applies               == a number that is given is the first that applies, and comes only under its condition;  first-is == the first that applies is given
 use Prim.Native.Nat.{ℕ, zero, suc, _≤_}
@@ -55,9 +56,17 @@ small-work = 7
 abbrev pub not-monic : ℕ
 not-monic = 8
 
+-- "inverse of zero"
+abbrev pub of-zero : ℕ
+of-zero = 9
+
 -- "fraction without residue"
 abbrev pub no-residue : ℕ
 no-residue = 10
+
+-- "more than D + 2 remainders taken in one sequence, D the larger degree at its start"
+abbrev pub too-long : ℕ
+too-long = 11
 
 -- the number where the test fails, or else the rest
 abbrev pub unless : Bool → ℕ → ℕ → ℕ
@@ -111,6 +120,21 @@ ordered-numbered k [] l h = tt
 ordered-numbered k (row ∷ rows) l h =
     let one : 1 ≤ row .0 = omega (arith, leb→le k (row .0) (both-l (leb k (row .0)) _ h)) in
     (one, ordered-numbered (row .0) rows one (both-r (leb k (row .0)) _ h))
+
+-- no number of the table is above m
+abbrev pub upTo : ℕ → Table → Bool
+upTo m [] = true
+upTo m (row ∷ rows) = leb (row .0) m && upTo m rows
+
+unless-most : (b : Bool) (k r m : ℕ) → k ≤ m → r ≤ m → unless b k r ≤ m
+unless-most true k r m h l = l
+unless-most false k r m h l = h
+
+-- so none above m is given
+pub first-up-to : (m : ℕ) (t : Table) → T (upTo m t) → first t ≤ m
+first-up-to m [] h = omega arith
+first-up-to m (row ∷ rows) h =
+    unless-most (row .1 tt) (row .0) (first rows) m (leb→le (row .0) m (both-l (leb (row .0) m) _ h)) (first-up-to m rows (both-r (leb (row .0) m) _ h))
 
 unless-then : (b : Bool) (k r s : ℕ) → 1 ≤ k → unless b k (andThen r s) ≡ andThen (unless b k r) s
 unless-then true k r s h = refl

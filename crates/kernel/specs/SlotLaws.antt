@@ -2,28 +2,31 @@
 --
 -- Tested, tested       == what is known where a product or a division gets no number: the tests up to 7, and those that follow
 -- ring-held            == the ring is that of the one tower whose words are given
--- held-below, held-few == a slot in form holds a polynomial that is zero from its degree on, and its coefficients are enough
+-- held-below, held-top  == a slot in form holds a polynomial that is zero from its degree word's count on, and not zero under it
+-- held-low, held-few   == that count is not above what the polynomial is zero from, nor above its coefficients
 -- held-one             == a coefficient is 1 precisely where its words are those of 1
--- Written              == a slot in form, as long as another;  filled-written == a slot that is filled is so
--- filled-holds         == and it holds what it was filled with, if that is zero from its coefficients on
+-- Written              == a slot in form, as long as another;  slot-written == so are the words of as many coefficients as the other has
+-- slot-holds           == the words of k coefficients hold them;  filled-holds == a slot holds what it is filled with, if that is zero from its coefficients on
 -- Cleared              == m words 0 and the others as before;  cleared-words == so they are after Done
+-- changed-said         == what a call says is its number;  changed-zero == Done is none
+-- changed-same, filled-same == what two runs leave that give one number
 use Prim.Native.Nat.{ℕ, zero, suc, _+_, _-_, _*_, _/_, _<_, _≤_}
 use native.Mathlib.Nat.{mul-div-cancel}
 use native.Mathlib.Omega.{arith}
-use mathlib.Core.Path.{_≡_, refl, sym, ap, _∙_, subst}
-use mathlib.Core.Logic.{_↔_}
+use mathlib.Core.Path.{_≡_, refl, sym, ap, ap₂, _∙_, subst}
+use mathlib.Core.Logic.{_⊎_, inl, inr, _↔_}
 use mathlib.Core.List.{List, [], _∷_, _++_}
 use lib.IntN.{ℤ, pos}
-use lib.Dec.{T, leb→le}
+use lib.Dec.{T, T-prop, leb→le}
 use lib.ListN.{length, getD, drop, length-append, length-drop, List·getD-append}
 use lib.Seq.{getD-append-add, getD-drop}
-use Rattle.algebra.specs.Test.{both-l, both-r}
+use Rattle.algebra.specs.Test.{both-l, both-r, le-or-lt}
 use Rattle.algebra.specs.Vec.{Vec, Below, coef, trunc, coef-trunc}
 use Rattle.residue.specs.Word.{num}
 use Rattle.tower.specs.Coding.{block-up}
 use Rattle.tower.specs.Form.{seg, copies, inForm, zeroWords, oneWords, slotForm}
 use Rattle.tower.specs.Levels.{El, group, ring, zero-test}
-use Rattle.tower.specs.Limits.{pOk, p-positive, degreesOf}
+use Rattle.tower.specs.Limits.{pOk, p-positive, degreesOf, slotCount}
 use Rattle.tower.specs.Lists.{copies-long}
 use Rattle.tower.specs.Stands.{slot-stands, degree-told, count-few}
 use Rattle.tower.specs.TowerUnique.{write-one, towerOf-words}
@@ -32,9 +35,9 @@ use Rattle.tower.specs.Work.{productWork}
 use Rattle.tower.specs.Writing.{size, size-pos, slot, slot-long, write, read, towerOf}
 use Rattle.kernel.specs.Calls.{sizeOf, coefficientsOf, lengthOk, formOk, towerTable, towerNumber}
 use Rattle.kernel.specs.Meaning.{InRange, TowerHeld, ones, tower-says}
-use Rattle.kernel.specs.Refusals.{Table, Passed, first-of}
+use Rattle.kernel.specs.Refusals.{done, refusal, refusal-inj, Table, Passed, first-of}
 use Rattle.kernel.specs.SlotMeaning.{room-iff, room-count}
-use Rattle.kernel.specs.Slots.{degreeCount, polynomialOf, coefficientsIn, slotsTable, topRing, filled, cleared}
+use Rattle.kernel.specs.Slots.{degreeCount, polynomialOf, coefficientsIn, slotsTable, topRing, filled, cleared, changedBy}
 
 -- ---- what the tests say
 pub record Tested (p n : ℤ) (e t a b c v : List ℤ) (r : ℕ) (more : Table) : Type 0 where
@@ -94,6 +97,16 @@ module _ (p n : ℤ) (e : List ℤ) (h : T (pOk p)) where
     pub held-below : Below o (degreeCount x) (coefficientsIn p n e h x)
     held-below = degree-told (num p) p-pos d (num n) x 0 k _ (slot-stands (num p) p-pos d (num n) k x f) .rest
 
+    pub held-top : (j : ℕ) → suc j ≡ degreeCount x → ¬ (coefficientsIn p n e h x j ≡ o)
+    held-top = degree-told (num p) p-pos d (num n) x 0 k _ (slot-stands (num p) p-pos d (num n) k x f) .top
+
+    pub held-low : (i : ℕ) → Below o i (coefficientsIn p n e h x) → degreeCount x ≤ i
+    held-low i low = which (le-or-lt (degreeCount x) i)
+      where
+        which : (degreeCount x ≤ i) ⊎ (i < degreeCount x) → degreeCount x ≤ i
+        which (inl q) = q
+        which (inr q) = absurd (held-top (degreeCount x - 1) (omega arith) (low (degreeCount x - 1) (omega arith)))
+
     pub held-few : degreeCount x ≤ k
     held-few = count-few (num p) p-pos d (num n) x 0 k _ (slot-stands (num p) p-pos d (num n) k x f)
 
@@ -104,30 +117,30 @@ module _ (p n : ℤ) (e : List ℤ) (h : T (pOk p)) where
         ∙ block-up (zero-test (num p) p-pos d (num n)) (size d (num n)) (zeroWords d (num n)) (inForm (num p) d (num n)) (coding (num p) p-pos d (num n)) k
         (polynomialOf p n e h k x) j l
 
-  -- ---- a slot that is filled
-  -- a slot of k coefficients has k of them
-  count-slot : (k : ℕ) (v : Vec (El (num p) d (num n)) k) → coefficientsOf n e (slot (num p) d (num n) k v) ≡ k
-  count-slot k v =
-      let l : length (slot (num p) d (num n) k v) - 1 ≡ k * sizeOf n e = omega (arith, slot-long (num p) d (num n) k v) in
-      ap (λ m. m / sizeOf n e) l ∙ mul-div-cancel k (size-pos d (num n))
+  -- ---- a slot that is written
+  module _ (k : ℕ) (v : Vec (El (num p) d (num n)) k) where
+    -- a slot of k coefficients has k of them
+    pub count-slot : coefficientsOf n e (slot (num p) d (num n) k v) ≡ k
+    count-slot =
+        let l : length (slot (num p) d (num n) k v) - 1 ≡ k * sizeOf n e = omega (arith, slot-long (num p) d (num n) k v) in
+        ap (λ m. m / sizeOf n e) l ∙ mul-div-cancel k (size-pos d (num n))
 
-  module _ (x : List ℤ) (f : ℕ → El (num p) d (num n)) where
-    pub filled-written : T (lengthOk n e x) → Written p n e x (filled p n e x f)
-    filled-written t =
-        let s = sizeOf n e in
-        let k = coefficientsOf n e x in
-        let r = room-iff s (length x) (size-pos d (num n)) .0 t in (
-          slot-long (num p) d (num n) k _ ∙ ap (λ m. 1 + m * s) (room-count s (length x) (size-pos d (num n)) r) ∙ sym (r .long),
-          subst (λ m. T (slotForm (num p) d (num n) m (filled p n e x f))) (sym (count-slot k (trunc k f))) (slot-form (num p) p-pos d (num n) k (trunc k f)),
-        )
+    pub slot-holds : (j : ℕ) → coefficientsIn p n e h (slot (num p) d (num n) k v) j ≡ coef o k v j
+    slot-holds j =
+        ap (λ m. coef o m (polynomialOf p n e h m (slot (num p) d (num n) k v)) j) count-slot ∙ ap (λ u. coef o k u j) (unslot-slot (num p) p-pos d (num n) k v)
 
-    pub filled-holds : Below o (coefficientsOf n e x) f → (j : ℕ) → coefficientsIn p n e h (filled p n e x f) j ≡ f j
-    filled-holds b j =
-        let k = coefficientsOf n e x in
-        let w = filled p n e x f in
-        ap (λ m. coef o m (polynomialOf p n e h m w) j) (count-slot k (trunc k f))
-        ∙ ap (λ v. coef o k v j) (unslot-slot (num p) p-pos d (num n) k (trunc k f))
-        ∙ coef-trunc o k f b j
+  pub slot-written : (x : List ℤ) (v : Vec (El (num p) d (num n)) (coefficientsOf n e x)) → T (lengthOk n e x)
+      → Written p n e x (slot (num p) d (num n) (coefficientsOf n e x) v)
+  slot-written x v t =
+      let s = sizeOf n e in
+      let k = coefficientsOf n e x in
+      let r = room-iff s (length x) (size-pos d (num n)) .0 t in (
+        slot-long (num p) d (num n) k v ∙ ap (λ m. 1 + m * s) (room-count s (length x) (size-pos d (num n)) r) ∙ sym (r .long),
+        subst (λ m. T (slotForm (num p) d (num n) m (slot (num p) d (num n) k v))) (sym (count-slot k v)) (slot-form (num p) p-pos d (num n) k v),
+      )
+
+  pub filled-holds : (x : List ℤ) (f : ℕ → El (num p) d (num n)) → Below o (coefficientsOf n e x) f → (j : ℕ) → coefficientsIn p n e h (filled p n e x f) j ≡ f j
+  filled-holds x f b j = slot-holds (coefficientsOf n e x) (trunc (coefficientsOf n e x) f) j ∙ coef-trunc o (coefficientsOf n e x) f b j
 
 -- ---- a coefficient is 1 where its words are those of 1
 module _ (p n : ℤ) (e t x : List ℤ) (r : InRange p n e) (f : T (formOk p n e x)) (j : ℕ) (l : j < coefficientsOf n e x) where
@@ -170,3 +183,27 @@ cleared-words m v h = record {
     zeros zero k = refl
     zeros (suc m) zero = refl
     zeros (suc m) (suc k) = zeros m k
+
+-- ---- two runs
+-- what a call says is its number
+pub changed-said : {A : Type 0} (k : ℕ) (new old : A) → changedBy k new old .said ≡ refusal k
+changed-said zero new old = refl
+changed-said (suc k) new old = refl
+
+pub changed-zero : {A : Type 0} (k : ℕ) (new old : A) → changedBy k new old .said ≡ done → k ≡ 0
+changed-zero k new old h = refusal-inj k 0 (sym (changed-said k new old) ∙ h)
+
+-- two runs that give one number leave a part f of the words the same, if it is the same after Done and was the same before
+pub changed-same : {A B : Type 0} (f : A → B) (k k′ : ℕ) (new old new′ old′ : A) → k ≡ k′ → f new ≡ f new′ → f old ≡ f old′
+    → f (changedBy k new old .words) ≡ f (changedBy k′ new′ old′ .words)
+changed-same f k k′ new old new′ old′ q after before = subst (λ j. f (changedBy k new old .words) ≡ f (changedBy j new′ old′ .words)) q (go k)
+  where
+    go : (k : ℕ) → f (changedBy k new old .words) ≡ f (changedBy k new′ old′ .words)
+    go zero = after
+    go (suc k) = before
+
+-- what a slot is filled with depends on its length alone
+pub filled-same : (p n : ℤ) (e c c′ : List ℤ) (F : T (pOk p) → ℕ → El (num p) (degreesOf e) (num n)) (h h′ : T (pOk p)) → length c ≡ length c′
+    → filled p n e c (F h) ≡ filled p n e c′ (F h′)
+filled-same p n e c c′ F h h′ q =
+    ap₂ (λ k m. slot (num p) (degreesOf e) (num n) k (trunc k (F m))) (ap (slotCount (sizeOf n e)) q) (T-prop (pOk p) h h′)

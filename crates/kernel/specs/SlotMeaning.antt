@@ -4,6 +4,8 @@
 -- PolynomialOf, slotOf == the polynomials of k coefficients over the topmost level, and their words
 -- Room s l             == l words are a slot of 1 to 256 coefficients of s words;  room-iff == it is what the test of a length says
 -- room-count           == the coefficients are as many as slotCount says
+-- length-iff           == the test of a slot's length;  form-iff, none-iff == the test of its form, passed and not passed;  not-iff == any
+--                         test not passed
 -- SlotMeans            == for each number what it says; a number that is not used says ⊥
 -- slot-says            == a number that is given comes under its condition;  slot-given == and under its condition it is given
 -- slot-answers         == the same of what the call says
@@ -18,17 +20,17 @@ use native.Mathlib.Omega.{arith}
 use lib.IntN.{ℤ}
 use lib.Dec.{T, T-not, not-T, leb, eqb, leb→le, le→leb, eqb→eq}
 use lib.ListN.{length}
-use Rattle.algebra.specs.Test.{both, both-l, both-r}
+use Rattle.algebra.specs.Test.{branch, both, both-l, both-r}
 use Rattle.algebra.specs.Vec.{Vec}
 use Rattle.residue.specs.Word.{num}
 use Rattle.tower.specs.Levels.{El}
 use Rattle.tower.specs.Writing.{size-pos, slot, slot-long}
 use Rattle.tower.specs.Form.{slotForm}
-use Rattle.tower.specs.Limits.{p-positive, degreesOf, slotLength, slotCount}
+use Rattle.tower.specs.Limits.{pOk, p-positive, degreesOf, slotLength, slotCount}
 use Rattle.tower.specs.Unique.{Exactly, slot-iff, slot-form}
-use Rattle.kernel.specs.Refusals.{Table, first, refusal, refusal-inj, andThen, first-append, passed-of, first-of, Applies, first-applies, first-is}
-use Rattle.kernel.specs.Calls.{sizeOf, lengthRow, formRow, towerTable, towerNumber, slotNumber, checkSlot}
-use Rattle.kernel.specs.Meaning.{TowerHeld, TowerMeans, tower-numbered, tower-says, tower-given}
+use Rattle.kernel.specs.Refusals.{Table, first, refusal, refusal-inj, andThen, first-of, first-is, first-up-to}
+use Rattle.kernel.specs.Calls.{sizeOf, coefficientsOf, lengthOk, formOk, lengthRow, formRow, towerNumber, slotTable, slotNumber, checkSlot}
+use Rattle.kernel.specs.Meaning.{TowerHeld, TowerMeans, tower-says, tower-behind, then-says, then-given}
 
 -- the polynomials of k coefficients over the topmost level, and their words
 abbrev pub PolynomialOf : ℤ → ℤ → List ℤ → ℕ → Type 0
@@ -108,69 +110,67 @@ SlotMeans p n e t a (suc (suc (suc (suc zero)))) = LengthOut p n e t a
 SlotMeans p n e t a (suc (suc (suc (suc (suc zero))))) = NoPolynomial p n e t a
 SlotMeans p n e t a (suc (suc (suc (suc (suc (suc k)))))) = ⊥
 
+-- ---- what the two tests of a slot say
+-- a test that is not passed
+pub not-iff : (b : Bool) {P : Type 0} → T b ↔ P → T (not b) ↔ (¬ P)
+not-iff b h = (λ t x. T-not b t (h .1 x), λ none. not-T b (λ t. none (h .0 t)))
+
+pub length-iff : (n : ℤ) (e a : List ℤ) → T (lengthOk n e a) ↔ Room (sizeOf n e) (length a)
+length-iff n e a = room-iff (sizeOf n e) (length a) (size-pos (degreesOf e) (num n))
+
+module _ (p n : ℤ) (e : List ℤ) (h : T (pOk p)) (a : List ℤ) where
+  abbrev k : ℕ
+  k = coefficientsOf n e a
+
+  pub form-iff : T (formOk p n e a) ↔ Exactly (slotOf p n e k) a
+  form-iff = slot-iff (num p) (p-positive p h) (degreesOf e) (num n) k a
+
+  pub none-iff : T (not (formOk p n e a)) ↔ ((v : PolynomialOf p n e k) → ¬ (slotOf p n e k v ≡ a))
+  none-iff = (
+    λ t v q. T-not (formOk p n e a) t (subst (λ w. T (slotForm (num p) (degreesOf e) (num n) k w)) q (slot-form (num p) (p-positive p h) (degreesOf e) (num n) k v)),
+    λ none. not-T (formOk p n e a) (λ f. (let x = form-iff .0 f in none (x .this) (x .holds))),
+  )
+
 module _ (p n : ℤ) (e t a : List ℤ) where
   abbrev pub rows : Table
   rows = lengthRow n e a ∷ formRow p n e a ∷ []
 
-  abbrev s : ℕ
-  s = sizeOf n e
-
-  abbrev k : ℕ
-  k = slotCount s (length a)
-
-  abbrev form : Bool
-  form = slotForm (num p) (degreesOf e) (num n) k a
-
   pub slot-is : slotNumber p n e t a ≡ andThen (towerNumber p n e t) (first rows)
-  unfolding slotNumber towerNumber
-  slot-is = first-append (towerTable p n e t) rows (tower-numbered p n e t)
+  unfolding slotNumber
+  slot-is = tower-behind p n e t rows
 
-  length-iff : T (slotLength s (length a)) ↔ Room s (length a)
-  length-iff = room-iff s (length a) (size-pos (degreesOf e) (num n))
+  abbrev M : ℕ → Type 0
+  M = SlotMeans p n e t a
 
-  form-iff : TowerHeld p n e t → T form ↔ Exactly (slotOf p n e k) a
-  form-iff τ = slot-iff (num p) (p-positive p (τ .range .modulus)) (degreesOf e) (num n) k a
-
-  of-tower : (j : ℕ) → TowerMeans p n e t (suc j) → SlotMeans p n e t a (suc j)
-  of-tower zero h = h
-  of-tower (suc zero) h = h
-  of-tower (suc (suc zero)) h = h
-  of-tower (suc (suc (suc j))) h = absurd h
-
-  no-polynomial : TowerHeld p n e t → T (not form) → (v : PolynomialOf p n e k) → ¬ (slotOf p n e k v ≡ a)
-  no-polynomial τ h v q =
-      T-not form h (subst (λ w. T (slotForm (num p) (degreesOf e) (num n) k w)) q (slot-form (num p) (p-positive p (τ .range .modulus)) (degreesOf e) (num n) k v))
-
-  of-rows : TowerHeld p n e t → (j : ℕ) → first rows ≡ j → SlotMeans p n e t a j
-  of-rows τ zero h =
-      let x = passed-of rows (omega arith, (omega arith, tt)) h in
-      record { tower = τ; room = length-iff .0 (x .0); held = form-iff τ .0 (x .1 .0) }
-  of-rows τ (suc j) h = go (first-applies rows j h)
-    where
-      go : Applies rows (suc j) → SlotMeans p n e t a (suc j)
-      go (inl x) = subst (SlotMeans p n e t a) (x .1) (record { tower = τ; out = λ r. T-not (slotLength s (length a)) (x .0) (length-iff .1 r) })
-      go (inr (l, inl x)) = subst (SlotMeans p n e t a) (x .1) (record { tower = τ; room = length-iff .0 l; none = no-polynomial τ (x .0) })
-      go (inr (l, inr (f, none))) = absurd none
+  of-rows : TowerHeld p n e t → M (first rows)
+  of-rows τ =
+      branch (lengthOk n e a)
+      (λ l. branch (formOk p n e a)
+      (λ f. subst M (sym (first-of rows (l, (f, tt)))) (record { tower = τ; room = length-iff n e a .0 l; held = form-iff p n e (τ .range .modulus) a .0 f }))
+      (λ f. subst M (sym (first-is rows 5 (inr (l, inl (f, refl))))) (record {
+        tower = τ;
+        room = length-iff n e a .0 l;
+        none = none-iff p n e (τ .range .modulus) a .0 f;
+      })))
+      (λ l. subst M (sym (first-is rows 4 (inl (l, refl)))) (record { tower = τ; out = not-iff (lengthOk n e a) (length-iff n e a) .0 l }))
 
   pub slot-says : (j : ℕ) → slotNumber p n e t a ≡ j → SlotMeans p n e t a j
-  slot-says j h = go (towerNumber p n e t) refl (sym slot-is ∙ h)
-    where
-      go : (x : ℕ) → towerNumber p n e t ≡ x → andThen x (first rows) ≡ j → SlotMeans p n e t a j
-      go zero q h = of-rows (tower-says p n e t 0 q) j h
-      go (suc x) q h = subst (SlotMeans p n e t a) h (of-tower x (tower-says p n e t (suc x) q))
-
-  then-rows : (j i : ℕ) → TowerMeans p n e t j → andThen j (first rows) ≡ i → slotNumber p n e t a ≡ i
-  then-rows j i h q = slot-is ∙ ap (λ x. andThen x (first rows)) (tower-given p n e t j h) ∙ q
+  unfolding slotNumber
+  slot-says j h = subst M h (then-says p n e t rows M (λ m. m) (λ m. m) (λ m. m) of-rows)
 
   pub slot-given : (j : ℕ) → SlotMeans p n e t a j → slotNumber p n e t a ≡ j
-  slot-given zero h = then-rows 0 0 (h .tower) (first-of rows (length-iff .1 (h .room), (form-iff (h .tower) .1 (h .held), tt)))
-  slot-given (suc zero) h = then-rows 1 1 h refl
-  slot-given (suc (suc zero)) h = then-rows 2 2 h refl
-  slot-given (suc (suc (suc zero))) h = then-rows 3 3 h refl
-  slot-given (suc (suc (suc (suc zero)))) h = then-rows 0 4 (h .tower) (first-is rows 4 (inl (not-T (slotLength s (length a)) (λ l. h .out (length-iff .0 l)), refl)))
+  unfolding slotNumber
+  slot-given zero h =
+      then-given p n e t rows 0 (h .tower)
+      ∙ first-of rows (length-iff n e a .1 (h .room), (form-iff p n e (h .tower .range .modulus) a .1 (h .held), tt))
+  slot-given (suc zero) h = then-given p n e t rows 1 h
+  slot-given (suc (suc zero)) h = then-given p n e t rows 2 h
+  slot-given (suc (suc (suc zero))) h = then-given p n e t rows 3 h
+  slot-given (suc (suc (suc (suc zero)))) h =
+      then-given p n e t rows 0 (h .tower) ∙ first-is rows 4 (inl (not-iff (lengthOk n e a) (length-iff n e a) .1 (h .out), refl))
   slot-given (suc (suc (suc (suc (suc zero))))) h =
-      let bad = not-T form (λ f. (let x = form-iff (h .tower) .0 f in h .none (x .this) (x .holds))) in
-      then-rows 0 5 (h .tower) (first-is rows 5 (inr (length-iff .1 (h .room), inl (bad, refl))))
+      then-given p n e t rows 0 (h .tower)
+      ∙ first-is rows 5 (inr (length-iff n e a .1 (h .room), inl (none-iff p n e (h .tower .range .modulus) a .1 (h .none), refl)))
 
   -- the same of what the call says
   pub slot-answers : (j : ℕ) → (checkSlot p n e t a ≡ refusal j) ↔ SlotMeans p n e t a j
@@ -189,17 +189,10 @@ module _ (p n : ℤ) (e t : List ℤ) (h : towerNumber p n e t ≡ 0) (k : ℕ) 
       let w = slotOf p n e k v in
       let c = room-count (sizeOf n e) (length w) (size-pos (degreesOf e) (num n)) (room-of v) in
       let f = slot-form (num p) (p-positive p (τ .range .modulus)) (degreesOf e) (num n) k v in
-      let held = form-iff p n e t w τ .0 (subst (λ j. T (slotForm (num p) (degreesOf e) (num n) j w)) (sym c) f) in
+      let held = form-iff p n e (τ .range .modulus) w .0 (subst (λ j. T (slotForm (num p) (degreesOf e) (num n) j w)) (sym c) f) in
       slot-given p n e t w 0 (record { tower = τ; room = room-of v; held = held })
 
 -- no other number is given
 pub slot-numbers : (p n : ℤ) (e t a : List ℤ) → slotNumber p n e t a ≤ 5
-slot-numbers p n e t a = used (slotNumber p n e t a) (slot-says p n e t a (slotNumber p n e t a) refl)
-  where
-    used : (k : ℕ) → SlotMeans p n e t a k → k ≤ 5
-    used zero h = omega arith
-    used (suc zero) h = omega arith
-    used (suc (suc zero)) h = omega arith
-    used (suc (suc (suc zero))) h = omega arith
-    used (suc (suc (suc (suc zero)))) h = omega arith
-    used (suc (suc (suc (suc (suc zero))))) h = omega arith
+unfolding slotNumber
+slot-numbers p n e t a = first-up-to 5 (slotTable p n e t a) tt

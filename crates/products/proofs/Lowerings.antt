@@ -3,7 +3,7 @@
 -- undivided, divided, outAt, Lowering  == the row, the same divided in place, what the loop leaves; the coefficients from k on are there
 -- lowest-some, lowest-few, lowest-room == the lowest degree, and the words from top on
 -- lowering-start, -place, -ready, -old, -operands, -next, -end == how the loop starts, goes on and ends
--- lowest-leaves, lowest-done           == what it leaves becomes the answer
+-- level-one, lowest-leaves, lowest-done == what it leaves becomes the answer
 use Prim.Native.Nat.{ℕ, zero, suc, _+_, _-_, _*_, _^_, _<_, _≤_}
 use native.Mathlib.Nat.{mul-one, mul-le-mul-right, lt-irrefl}
 use native.Mathlib.Omega.{arith}
@@ -19,7 +19,6 @@ use borrow.Author.Tests.{ltb-true, ltb-false, lt-ltb, le-ltb}
 use Rattle.algebra.specs.Ring.{zero-⊕}
 use Rattle.algebra.specs.Test.{le-or-lt}
 use Rattle.algebra.specs.Vec.{coef, coef-below, coef-zero}
-use Rattle.algebra.specs.Windows.{sum}
 use Rattle.algebra.specs.Divided.{row, row-low}
 use Rattle.algebra.specs.Zmod.{Residue, toZ, Zmod}
 use Rattle.residue.specs.Number.{Operands, Below}
@@ -275,14 +274,16 @@ module _ {d z : List ℕ} {p : ℕ} {m : List ℕ} {e : List ℤ} {e-in : Bool} 
                   (residue-stands p d _ w (top + n) r (lowering-place .1) here)
 
 -- ---- the answer
+-- below level 2, what is not level 0 is level 1
+pub level-one : (j : ℕ) → j < 2 → (j ≡ 0 → ⊥) → j ≡ 1
+level-one zero l h = absurd (h refl)
+level-one (suc j) l h = omega (arith, l)
+
 module _ {j : ℕ} {d z : List ℕ} {p : ℕ} {m : List ℕ} {e : List ℤ} {e-in : Bool} {ea : ℕ} {o : Two} {neg keep : Bool} {w w₁ : List ℤ} {c top g : ℕ}
-    (level : j ≡ 1) (h : ProductReady j d z p m e e-in ea o keep w c top) (eg : g ≡ degree d (j - 1)) (lowest : LowestDone d p m e e-in ea o neg keep w w₁ c top) where
+    (level : j ≡ 1) (h : ProductReady j d z p m e e-in ea o keep w c top) (eg : g ≡ degree d 0) (lowest : LowestDone d p m e e-in ea o neg keep w w₁ c top) where
   -- the level is 1
   first-level : ProductReady 1 d z p m e e-in ea o keep w c top
   first-level = subst (λ k. ProductReady k d z p m e e-in ea o keep w c top) level h
-
-  lowest-degree : g ≡ degree d 0
-  lowest-degree = eg ∙ ap (λ k. degree d (k - 1)) level
 
   all-words : size d 1 ≡ degree d 0 + 1
   all-words = omega (arith, size-suc d 0, ones d (degree d 0))
@@ -291,11 +292,11 @@ module _ {j : ℕ} {d z : List ℕ} {p : ℕ} {m : List ℕ} {e : List ℤ} {e-i
   pub lowest-leaves : LeaveReady g 1 w₁ c top
   lowest-leaves = record {
     some = omega arith;
-    below = omega (arith, first-level .c-below, all-words, lowest-degree);
+    below = omega (arith, first-level .c-below, all-words, eg);
     inside =
         omega (
           arith,
-          lowest-degree,
+          eg,
           lowest .frame .long,
           lowest-room first-level,
           lowest-some first-level,
@@ -305,7 +306,7 @@ module _ {j : ℕ} {d z : List ℕ} {p : ℕ} {m : List ℕ} {e : List ℤ} {e-i
   -- and end the product
   pub lowest-done : {w′ : List ℤ} → Left 0 g 1 w₁ w′ c top → ProductDone j d p m e e-in ea o neg keep w w′ c top
   lowest-done {w′} left =
-      subst (λ k. ProductDone k d p m e e-in ea o neg keep w w′ c top) (sym level) (go (subst (λ n. Left 0 n 1 w₁ w′ c top) lowest-degree left))
+      subst (λ k. ProductDone k d p m e e-in ea o neg keep w w′ c top) (sym level) (go (subst (λ n. Left 0 n 1 w₁ w′ c top) eg left))
     where
       go : Left 0 (degree d 0) 1 w₁ w′ c top → ProductDone 1 d p m e e-in ea o neg keep w w′ c top
       go left = record { frame = frame; done = done }

@@ -2,19 +2,20 @@
 --
 -- product-coefficients, -remainder, -leave == what the three steps ask for;  product-done == what they leave
 -- stands-of-slot                           == a slot of d_(i+1) coefficients is an element of level i + 1
-use Prim.Native.Nat.{ℕ, zero, suc, _+_, _-_, _*_, _^_, _<_, _≤_}
+-- product-level, -lower, -places           == the numbers of the code from level 2 on
+-- coefficients-asks, remainder-asks, leave-asks, product-leaves == the steps, in the words of the code
+use Prim.Native.Nat.{ℕ, suc, _+_, _-_, _*_, _^_, _<_, _≤_}
 use native.Mathlib.Nat.{mul-le-mul-left, mul-le-mul-right}
 use native.Mathlib.Omega.{arith}
 use mathlib.Core.Path.{_≡_, refl, ap, sym, _∙_, subst}
-use mathlib.Core.Bool.{Bool, true}
-use mathlib.Core.Logic.{_⊎_, inl, inr}
+use mathlib.Core.Bool.{Bool}
+use mathlib.Core.Logic.{inl}
 use mathlib.Core.List.{List}
 use lib.IntN.{ℤ}
-use lib.ListN.{length, set}
-use Rattle.algebra.specs.Ring.{CRing}
-use Rattle.algebra.specs.Vec.{Vec, coef, trunc}
+use lib.ListN.{length, getD, set}
+use Rattle.algebra.specs.Vec.{coef, trunc}
 use Rattle.algebra.specs.Divide.{remainder}
-use Rattle.algebra.specs.Divided.{row, row-low}
+use Rattle.algebra.specs.Divided.{row-low}
 use Rattle.tower.specs.Levels.{degree, El, group, Tower, ring}
 use Rattle.tower.specs.Writing.{size, size-suc, size-pos, modulusSize, towerSize, towerSize-suc, write, write-suc}
 use Rattle.tower.specs.Form.{seg}
@@ -26,7 +27,7 @@ use Rattle.arithmetic.specs.Rows.{block-inside, RunStands, run-of}
 use Rattle.arithmetic.specs.Sum.{gained}
 use Rattle.arithmetic.specs.Walk.{pick}
 use Rattle.products.specs.Value.{part, part-stands, value-suc, remainder-gained}
-use Rattle.products.specs.Product.{Worked, work, work-suc, TowerStands, Elements, Two, Inside, Given, Spread, Pairs, ProductReady, ProductDone, CoefficientsReady, CoefficientsDone, Dividing, RemainderReady, RemainderDone}
+use Rattle.products.specs.Product.{Worked, work, work-suc, TowerStands, Two, Inside, Given, Spread, Pairs, ProductReady, ProductDone, CoefficientsReady, CoefficientsDone, Dividing, RemainderReady, RemainderDone}
 use Rattle.products.specs.Lowest.{LeaveReady, Left}
 use Rattle.products.proofs.Frames.{worked-trans, worked-answer, worked-above, worked-kept, inside-kept, operating-kept, elements-picked, below-same, tower-kept, lefts-kept, rights-kept}
 use Rattle.products.proofs.Towers.{tower-low, tower-rest}
@@ -191,55 +192,69 @@ module _ {j : ℕ} {d z : List ℕ} {p : ℕ} {m : List ℕ} {e : List ℤ} {e-i
           }
 
 -- ---- in the words of the code, at level J = j + 1
-pub some-of : (j : ℕ) → (j ≡ 0 → ⊥) → 0 < j
-some-of zero h = absurd (h refl)
-some-of (suc j) h = omega arith
+module _ {J : ℕ} {d z : List ℕ} {p : ℕ} {m : List ℕ} {e : List ℤ} {e-in : Bool} {ea : ℕ} {o : Two} {keep : Bool} {w₀ : List ℤ} {c top : ℕ}
+    (high : (2 ≤ J) × ProductReady J d z p m e e-in ea o keep w₀ c top) where
+  abbrev j : ℕ
+  j = J - 1
 
-pub suc-of : (j : ℕ) → (j ≡ 0 → ⊥) → j ≡ suc (j - 1)
-suc-of j h = omega (arith, some-of j h)
+  up : J ≡ suc j
+  up = omega (arith, high .0)
 
--- where the tower's words below begin
-pub lower-is : (j : ℕ) (d : List ℕ) (ea : ℕ) → (j ≡ 0 → ⊥) → {a b : ℕ} → a ≡ size d j → b ≡ size d (j - 1) → ea + a + b ≡ ea + modulusSize d (j - 1)
-lower-is j d ea h ha hb = omega (arith, ha, hb, ap (size d) (suc-of j h))
-
-module _ {J j : ℕ} {d z : List ℕ} {p : ℕ} {m : List ℕ} {e : List ℤ} {e-in : Bool} {ea : ℕ} {o : Two} {keep : Bool} {w₀ : List ℤ} {c top : ℕ} (ej : J ≡ suc j)
-    (r : ProductReady J d z p m e e-in ea o keep w₀ c top) where
   ready : ProductReady (suc j) d z p m e e-in ea o keep w₀ c top
-  ready = subst (λ n. ProductReady n d z p m e e-in ea o keep w₀ c top) ej r
+  ready = subst (λ n. ProductReady n d z p m e e-in ea o keep w₀ c top) up (high .1)
 
-  pub product-lower : {a b : ℕ} → a ≡ size d J → b ≡ size d j → (ea + a + b ≤ length (pick e-in w₀ e)) × (ea + 1 ≤ length (pick e-in w₀ e))
-  product-lower ha hb =
-      (omega (arith, ha, hb, ap (size d) ej, ready .e-inside .inside, towerSize-suc d j), omega (arith, ready .e-inside .inside, towerSize-suc d j, size-suc d j))
+  pub product-level : (0 < J) × (J < 5)
+  product-level = (omega (arith, high .0), omega (arith, high .1 .level, high .1 .operating .low))
 
-  module _ {g s : ℕ} (eg : g ≡ degree d j) (es : s ≡ size d j) where
-    -- what the code computes
-    pub product-places : (1 ≤ g) × (g + g < 2 ^ 32) × (top + wide g * s ≤ length w₀) × (g * s ≤ wide g * s) × (c + 1 + g * s ≤ top)
-    product-places =
-        let one = mul-le-mul-left (degree d j) (size-pos d j) in
-        rw (eg, es) (
-          some ready,
-          omega (arith, ready .small, size-suc d j, one),
-          omega (arith, ready .room, work-suc d j),
-          row-most ready,
-          omega (arith, ready .c-below, size-suc d j),
-        )
+  module _ {s : ℕ} (es : s ≡ getD z j 0) where
+    one-size : s ≡ size d j
+    one-size = es ∙ ready .operating .sized .at j (omega (arith, product-level))
 
-    module _ {lower : ℕ} (el : lower ≡ ea + modulusSize d j) {w₁ : List ℤ} (b : Put top (seg (c + 1) (g * s) w₀) w₀ w₁) where
-      copy : Put top (seg (c + 1) (degree d j * size d j) w₀) w₀ w₁
-      copy = rw (eg, es) at b
+    module _ {a : ℕ} (ez : a ≡ getD z J 0) where
+      -- where the tower's words below begin
+      lower-is : ea + a + s ≡ ea + modulusSize d j
+      lower-is = omega (arith, ez ∙ ready .operating .sized .at J (omega (arith, product-level)), one-size, ap (size d) up)
 
-      pub coefficients-asks : CoefficientsReady j d z p m e e-in lower o keep w₁ top
-      coefficients-asks = rw el (product-coefficients ready copy)
+      pub product-lower : (ea + a + s ≤ length (pick e-in w₀ e)) × (ea + 1 ≤ length (pick e-in w₀ e))
+      product-lower = (
+        omega (arith, lower-is, ready .e-inside .inside, towerSize-suc d j),
+        omega (arith, ready .e-inside .inside, towerSize-suc d j, size-suc d j),
+      )
 
-      module _ {neg : Bool} {w₂ : List ℤ} (h : CoefficientsDone j d p m e e-in lower o neg keep w₁ w₂ top) {n x : ℕ} (en : n ≡ wide g) (ex : x ≡ top + n * s) where
-        pub remainder-asks : RemainderReady j d z p e e-in lower e e-in (ea + 1) g w₂ top n x
-        remainder-asks = rw (ex, en, el, eg, es) (product-remainder ready copy (rw el at h))
+    module _ {g : ℕ} (eg : g ≡ degree d j) where
+      -- what the code computes
+      pub product-places : (1 ≤ g) × (g + g < 2 ^ 32) × (top + wide g * s ≤ length w₀) × (g * s ≤ wide g * s) × (c + 1 + g * s ≤ top)
+      product-places =
+          let one = mul-le-mul-left (degree d j) (size-pos d j) in
+          rw (eg, one-size) (
+            some ready,
+            omega (arith, ready .small, size-suc d j, one),
+            omega (arith, ready .room, work-suc d j),
+            row-most ready,
+            omega (arith, ready .c-below, size-suc d j),
+          )
 
-        module _ {w₃ : List ℤ} (k : RemainderDone j d p e e-in lower e e-in (ea + 1) g w₂ w₃ top n x) where
-          pub leave-asks : LeaveReady g s w₃ c top
-          leave-asks = rw (eg, es) (product-leave ready copy (rw el at h) (rw (ex, en, el, eg, es) at k))
+      module _ {a : ℕ} (ez : a ≡ getD z J 0) {w₁ : List ℤ} (b : Put top (seg (c + 1) (g * s) w₀) w₀ w₁) where
+        copy : Put top (seg (c + 1) (degree d j * size d j) w₀) w₀ w₁
+        copy = rw (eg, one-size) at b
 
-          pub product-leaves : {w₄ : List ℤ} → Left j g s w₃ w₄ c top → ProductDone J d p m e e-in ea o neg keep w₀ w₄ c top
-          product-leaves {w₄} l =
-              subst (λ i. ProductDone i d p m e e-in ea o neg keep w₀ w₄ c top) (sym ej)
-              (product-done ready copy (rw el at h) (rw (ex, en, el, eg, es) at k) (rw (eg, es) at l))
+        pub coefficients-asks : CoefficientsReady j d z p m e e-in (ea + a + s) o keep w₁ top
+        coefficients-asks = rw (lower-is ez) (product-coefficients ready copy)
+
+        module _ {neg : Bool} {w₂ : List ℤ} (h : CoefficientsDone j d p m e e-in (ea + a + s) o neg keep w₁ w₂ top) {n x : ℕ} (en : n ≡ wide g) (ex : x ≡ top + n * s) where
+          made-of : CoefficientsDone j d p m e e-in (lower ready) o neg keep w₁ w₂ top
+          made-of = rw (lower-is ez) at h
+
+          pub remainder-asks : RemainderReady j d z p e e-in (ea + a + s) e e-in (ea + 1) g w₂ top n x
+          remainder-asks = rw (lower-is ez, ex, en, eg, one-size) (product-remainder ready copy made-of)
+
+          module _ {w₃ : List ℤ} (k : RemainderDone j d p e e-in (ea + a + s) e e-in (ea + 1) g w₂ w₃ top n x) where
+            divided : RemainderDone j d p e e-in (lower ready) e e-in (ea + 1) (degree d j) w₂ w₃ top (wide (degree d j)) (next ready)
+            divided = rw (lower-is ez, ex, en, eg, one-size) at k
+
+            pub leave-asks : LeaveReady g s w₃ c top
+            leave-asks = rw (eg, one-size) (product-leave ready copy made-of divided)
+
+            pub product-leaves : {w₄ : List ℤ} → Left j g s w₃ w₄ c top → ProductDone J d p m e e-in ea o neg keep w₀ w₄ c top
+            product-leaves {w₄} l =
+                subst (λ i. ProductDone i d p m e e-in ea o neg keep w₀ w₄ c top) (sym up) (product-done ready copy made-of divided (rw (eg, one-size) at l))

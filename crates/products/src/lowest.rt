@@ -6,7 +6,7 @@ ghost use lib.IntN.{pos};
 ghost use lib.ListN.{set};
 ghost use Rattle.residue.specs.Number.{Below};
 ghost use Rattle.residue.specs.Word.{at};
-ghost use Rattle.products.specs.Product.{two, ProductReady};
+ghost use Rattle.products.specs.Product.{two, ProductReady, ProductDone};
 ghost use Rattle.arithmetic.specs.Walk.{pick};
 ghost use Rattle.products.specs.Lowest.{oldNumber, OldReady, SingleReady, singleNumber, LowestAtReady, lowestNumber, LowestDone, LeaveReady, Left};
 use arithmetic::places::first_of;
@@ -161,4 +161,61 @@ pub fn leave(i: usize, g: usize, s: usize, w: &mut [i64], c: usize, top: usize)
 {
     copy(w, c + 1, top, g * s);
     settle(i, g, s, w, c);
+}
+
+// Levels 0 and 1: the element of level j at c gains, or loses where neg, what the pairs come to at the places m; without keep it starts at zero.
+pub fn low_product(
+    j: usize,
+    i: usize,
+    d: [usize; 4],
+    z: [usize; 5],
+    p: u64,
+    m: [usize; 4],
+    e: &[i64],
+    e_in: bool,
+    ea: usize,
+    x: &[i64],
+    x_in: bool,
+    a: usize,
+    y: &[i64],
+    y_in: bool,
+    b: usize,
+    n: usize,
+    neg: bool,
+    keep: bool,
+    w: &mut [i64],
+    c: usize,
+    top: usize,
+)
+    requires { ⌜ (j < 2) × ProductReady j d z p m (now e) «e_in» ea (two i (now x) «x_in» a (now y) «y_in» b n) keep (now w) c top ⌝ }
+    ensures { λ _.
+        ⌜ ProductDone j d p m (now (e .entry)) «e_in» ea (two i (now (x .entry)) «x_in» a (now (y .entry)) «y_in» b n) neg keep (now (w .entry)) (now (w .exit)) c top ⌝ }
+{
+    if j == 0 {
+        single(i, d, z, p, m, x, x_in, a, y, y_in, b, n, neg, keep, w, c);
+        return;
+    }
+    lowest(
+        i,
+        d,
+        z,
+        p,
+        m,
+        e,
+        e_in,
+        ea,
+        x,
+        x_in,
+        a,
+        y,
+        y_in,
+        b,
+        n,
+        neg,
+        keep,
+        w,
+        c,
+        top,
+    );
+    leave(0, degree_at(d, 0), 1, w, c, top);
 }

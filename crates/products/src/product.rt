@@ -4,10 +4,10 @@
 //
 // A product at level j makes the coefficients of its level, each a product one level down, and divides their row by the tower's polynomial; a
 // remainder at level i makes each coefficient by a product. The level falls round every cycle.
+ghost use Prim.Native.Nat.{_≤_};
 ghost use Rattle.products.specs.Product.{two, ProductReady, ProductDone, CoefficientsReady, CoefficientsDone, RemainderReady, RemainderDone};
 use super::lowest::leave;
-use super::lowest::lowest;
-use super::lowest::single;
+use super::lowest::low_product;
 use arithmetic::places::first_of;
 use arithmetic::places::keeps;
 use arithmetic::places::part_at;
@@ -46,13 +46,9 @@ pub fn product(
     ensures { λ _.
         ⌜ ProductDone j d p m (now (e .entry)) «e_in» ea (two i (now (x .entry)) «x_in» a (now (y .entry)) «y_in» b n) neg keep (now (w .entry)) (now (w .exit)) c top ⌝ }
 {
-    if j == 0 {
-        single(i, d, z, p, m, x, x_in, a, y, y_in, b, n, neg, keep, w, c);
-        return;
-    }
-    let g = degree_at(d, j - 1);
-    if j == 1 {
-        lowest(
+    if j < 2 {
+        low_product(
+            j,
             i,
             d,
             z,
@@ -74,9 +70,62 @@ pub fn product(
             c,
             top,
         );
-        leave(0, g, 1, w, c, top);
         return;
     }
+    high_product(
+        j,
+        i,
+        d,
+        z,
+        p,
+        m,
+        e,
+        e_in,
+        ea,
+        x,
+        x_in,
+        a,
+        y,
+        y_in,
+        b,
+        n,
+        neg,
+        keep,
+        w,
+        c,
+        top,
+    );
+}
+
+// From level 2 on: the coefficients of level j - 1, each a product, divided by the tower's polynomial.
+pub fn high_product(
+    j: usize,
+    i: usize,
+    d: [usize; 4],
+    z: [usize; 5],
+    p: u64,
+    m: [usize; 4],
+    e: &[i64],
+    e_in: bool,
+    ea: usize,
+    x: &[i64],
+    x_in: bool,
+    a: usize,
+    y: &[i64],
+    y_in: bool,
+    b: usize,
+    n: usize,
+    neg: bool,
+    keep: bool,
+    w: &mut [i64],
+    c: usize,
+    top: usize,
+)
+    requires { ⌜ (2 ≤ j) × ProductReady j d z p m (now e) «e_in» ea (two i (now x) «x_in» a (now y) «y_in» b n) keep (now w) c top ⌝ }
+    ensures { λ _.
+        ⌜ ProductDone j d p m (now (e .entry)) «e_in» ea (two i (now (x .entry)) «x_in» a (now (y .entry)) «y_in» b n) neg keep (now (w .entry)) (now (w .exit)) c top ⌝ }
+{
+    let g = degree_at(d, j - 1);
     let s = size_at(z, j - 1);
     let h = wide_of(g);
     let next = part_at(top, h, s);

@@ -4,7 +4,7 @@
 -- product-fits                        == a product of two residues fits a word
 -- room-start, room-less, room-after   == room for 2^32 folds from zero, for fewer, and for the rest after some
 -- added-none, added-more, added-then  == no fold adds nothing; a larger count; folds after folds
--- reduced                             == the two words modulo p
+-- reduced-once, reduced-twice         == the two words modulo p, as one number or with the upper part modulo p first
 -- Rows; start, turn, next             == two rows; the first two; what a quotient does; the next two
 -- finish-factor, -minus, -plus        == the answer, by the last remainder and the sign of its multiplier
 -- inverted-unique                     == an answer is determined
@@ -53,13 +53,20 @@ added-more m n a lo hi lo′ hi′ h f = record { lo-most = omega arith; hi-most
 pub added-then : (m n a b lo hi l h lo′ hi′ : ℕ) → Added m a lo hi l h → Added n b l h lo′ hi′ → Added (m + n) (a + b) lo hi lo′ hi′
 added-then m n a b lo hi l h lo′ hi′ f g = record { lo-most = omega arith; hi-most = omega arith; value = omega arith }
 
-pub reduced : (lo hi p : ℕ) → 0 < p → Below p (sumOf lo hi % p) (((hi + lo / 2 ^ 32) % p * 2 ^ 32 + lo % 2 ^ 32) % p)
-reduced lo hi p h = record {
+-- the two words as one number
+joined : (lo hi : ℕ) → (hi + lo / 2 ^ 32) * 2 ^ 32 + lo % 2 ^ 32 ≡ sumOf lo hi
+joined lo hi = omega (arith, div-add-mod' lo (2 ^ 32))
+
+pub reduced-once : (lo hi p : ℕ) → 0 < p → Below p (sumOf lo hi % p) (((hi + lo / 2 ^ 32) * 2 ^ 32 + lo % 2 ^ 32) % p)
+reduced-once lo hi p h = record { value = ap (λ k. k % p) (joined lo hi); small = mod-lt _ h }
+
+pub reduced-twice : (lo hi p : ℕ) → 0 < p → Below p (sumOf lo hi % p) (((hi + lo / 2 ^ 32) % p * 2 ^ 32 + lo % 2 ^ 32) % p)
+reduced-twice lo hi p h = record {
   value =
       sym (mod-add-mod ((hi + lo / 2 ^ 32) % p * 2 ^ 32) p (lo % 2 ^ 32))
       ∙ ap (λ k. (k + lo % 2 ^ 32) % p) (mul-mod-l (hi + lo / 2 ^ 32) (2 ^ 32) p)
       ∙ mod-add-mod ((hi + lo / 2 ^ 32) * 2 ^ 32) p (lo % 2 ^ 32)
-      ∙ ap (λ k. k % p) (omega (arith, div-add-mod' lo (2 ^ 32)));
+      ∙ ap (λ k. k % p) (joined lo hi);
   small = mod-lt _ h;
 }
 

@@ -8,7 +8,7 @@ ghost use mathlib.Core.Path.{_≡_};
 ghost use Prim.Native.Nat.{_+_, _-_, _*_, _%_, _^_, _<_};
 ghost use lib.IntN.{pos, natAbs};
 ghost use lib.ListN.{length, getD, set};
-ghost use Rattle.residue.specs.Number.{Modulus, Operand, Operands, Below, sumOf, Room, Added};
+ghost use Rattle.residue.specs.Number.{Modulus, Operands, Below, sumOf, Room, Added};
 ghost use Rattle.residue.specs.Word.{num, at, Narrow, modZ};
 
 // The inverse of a number, or the greatest common divisor of it and the modulus.
@@ -32,14 +32,6 @@ pub fn subtract(a: u64, b: u64, p: u64) -> u64
     ensures { λ r. ⌜ Below p ((a + (p - b)) % p) r ⌝ }
 {
     if a < b { a + (p - b) } else { a - b }
-}
-
-// The negative of a residue.
-pub fn negate(a: u64, p: u64) -> u64
-    requires { ⌜ Operand p a ⌝ }
-    ensures { λ r. ⌜ Below p ((p - a) % p) r ⌝ }
-{
-    if a == 0 { 0 } else { p - a }
 }
 
 // The product of two residues.
@@ -67,13 +59,17 @@ pub fn fold(s: Accumulator, v: u64) -> Accumulator
     }
 }
 
-// What an accumulator holds, modulo p.
+// What an accumulator holds, modulo p. A sum below 2^64 takes one division instead of two.
 pub fn reduce(s: Accumulator, p: u64) -> u64
     requires { ⌜ Modulus p × Room 1 (s .lo) (s .hi) ⌝ }
     ensures { λ r. ⌜ Below p (sumOf (s .lo) (s .hi) % p) r ⌝ }
 {
-    let h = (s.hi + s.lo / 4294967296) % p;
-    (h * 4294967296 + s.lo % 4294967296) % p
+    let h = s.hi + s.lo / 4294967296;
+    let l = s.lo % 4294967296;
+    if h < 4294967296 {
+        return (h * 4294967296 + l) % p;
+    }
+    (h % p * 4294967296 + l) % p
 }
 
 // How far n is from 0.
@@ -113,14 +109,6 @@ pub fn word(n: u64) -> i64
     ensures { λ r. ⌜ r ≡ pos n ⌝ }
 {
     n as i64
-}
-
-// The number at an index.
-pub fn get(x: &[i64], i: usize) -> u64
-    requires { ⌜ i < length (now x) ⌝ }
-    ensures { λ r. ⌜ r ≡ at (now (x .entry)) i ⌝ }
-{
-    number(x[i])
 }
 
 // The number at an index where the caller knows that it is below 2^32: no test of the sign.
