@@ -60,7 +60,7 @@ def slot_tests(p, levels, four_degrees, inputs, answers=()):
     ]
 
 
-# Answer slots.
+# Answer slots and work stores.
 
 def coefficients_in(degrees, slot):
     """The number k of a slot of k coefficients; its length is allowed."""
@@ -70,6 +70,11 @@ def coefficients_in(degrees, slot):
 def rewritten(degrees, slot, f):
     """'The whole answer slot is written, the rest of it zeros in form.'"""
     return words.slot_to_words(degrees, f, coefficients_in(degrees, slot))
+
+
+def cleared(needed, work):
+    """'the needed work words are 0 and those beyond are as before'."""
+    return [0] * needed + work[needed:]
 
 
 # The calls.
@@ -85,6 +90,28 @@ def check_slot(p, levels, four_degrees, tower, slot):
     tests = (tower_tests(p, levels, four_degrees, tower)
              + slot_tests(p, levels, four_degrees, [slot]))
     return answer_of(first_number(tests)), (), (list(tower), list(slot))
+
+
+def number_of_view(p, levels, four_degrees, tower, a, b):
+    """'check of a slot and leading view 1 to 5', or 0."""
+    return first_number(tower_tests(p, levels, four_degrees, tower)
+                        + slot_tests(p, levels, four_degrees, [a, b]))
+
+
+def leading_view(p, levels, four_degrees, tower, a, b):
+    """The leading coefficient 'of whichever has the higher degree, of a when they are
+    equal'; 'an empty part' where a number applies 'or both are zero'.
+
+    'This call hands out no number': the words shown stand in front of the lists.
+    """
+    shown = []
+    if number_of_view(p, levels, four_degrees, tower, a, b) == 0:
+        degrees = used_degrees(levels, four_degrees)
+        f, g = words.slot_from_words(degrees, a), words.slot_from_words(degrees, b)
+        higher = g if ring.degree(g) > ring.degree(f) else f
+        if ring.degree(higher) >= 0:
+            shown = words.element_to_words(degrees, levels, ring.leading(higher))
+    return (), (), (shown, list(tower), list(a), list(b))
 
 
 def room_for_sum(levels, four_degrees, a, b):

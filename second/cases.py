@@ -76,6 +76,11 @@ def polynomial_of_degree(rng, tower, degree):
     return tuple(lower) + (last,)
 
 
+def element_not_zero(rng, tower):
+    """A random element of R_N that is not zero."""
+    return polynomial_of_degree(rng, tower, 0)[0]
+
+
 def other_words(word, p):
     """What to put for a word: the edges, and the words beside it."""
     values = {LEAST, -2, -1, 0, 1, p - 1, p, word - 1, word + 1, MOST}

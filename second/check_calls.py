@@ -1,6 +1,6 @@
 """The calls on raw numbers and words: figures C1 to C3 and C11, and the order."""
 
-from second import calls, words
+from second import calls, cases_view, words
 from second.cases import LEAST, MOST, four
 from second.cases_slot import EXAMPLE_SLOT, SLOT_2_2
 from second.cases_tower import EXAMPLE_TOWER, power_words
@@ -47,6 +47,9 @@ def calls_and_refusals(counter):
     example(counter.check)
     order_of_tower(counter.check)
     order_of_slot(counter.check)
+    views_by_hand(counter.check)
+    order_of_view(counter.check)
+    reasons_of_view(counter.check)
     sums_by_hand(counter.check)
     order_of_sum(counter.check)
     order_of_numbers(counter.check)
@@ -104,6 +107,61 @@ def order_of_slot(check):
     check(slot_is(refused(3), *where, right[:-1], []), "3 before 4")
     check(slot_is(refused(2), 2, 2, four((2, 1)), [], []), "2 before 3")
     check(slot_is(refused(1), 1, 2, four((2, 1)), [], []), "1 first")
+
+
+# p, a, b and what their leading view shows by hand, without a tower and over T7.
+VIEWS_OF_RESIDUES = [
+    (7, [1, 5, 3], [1, 4, 6], [3]), (7, [1, 5, 3], [2, 0, 0, 6], [6]),
+    (7, [0, 5, 0], [1, 4, 6], [6]), (7, [2, 0, 0, 4], [1, 4, 6, 0], [4]),
+    (2, [-1, 0], [0, 1], [1]), (2, [0, 1], [-1, 0], [1]), (2, [-1, 0], [-1, 0, 0], []),
+]
+VIEWS_OVER_T7 = [
+    # (z + 3)x + 2z and 6z + 4, then the other way round.
+    ([1, 1, 0, 2, 1, 3, 1], [0, 1, 4, 6], [1, 3, 1]),
+    ([0, 1, 4, 6], [1, 1, 0, 2, 1, 3, 1], [1, 3, 1]),
+    # z + 3 and 6, of one degree: a's.
+    ([0, 1, 3, 1, -1, 0, 0], [0, 0, 6, 0], [1, 3, 1]),
+    ([0, 0, 6, 0], [0, 1, 3, 1, -1, 0, 0], [0, 6, 0]),
+    ([-1, -1, 0, 0], [-1, -1, 0, 0, -1, 0, 0], []),
+]
+
+
+def view_is(shown, *arguments):
+    """Whether the leading view shows these words and leaves every list as found."""
+    found = tuple(list(a) for a in arguments if isinstance(a, list))
+    return calls.leading_view(*arguments) == ((), (), (shown,) + found)
+
+
+def views_by_hand(check):
+    """The words that the leading view shows of small polynomials."""
+    for p, a, b, shown in VIEWS_OF_RESIDUES:
+        check(view_is(shown, p, 0, four(()), [], a, b), "view", p, a, b)
+    for a, b, shown in VIEWS_OVER_T7:
+        check(view_is(shown, 7, 1, four((2,)), [2, 5, 0, 1], a, b), "view, T7", a, b)
+
+
+def order_of_view(check):
+    """An empty part for each number, of each list in turn."""
+    right, where = power_words((2, 2)), (2, 2, four((2, 2)))
+    check(view_is([1, 1, 0, 1, 0, 1, 0], *where, right, SLOT_2_2, SLOT_2_2), "shown")
+    for tower, a, b in [(right, SLOT_2_2, [7] * 15), (right, [7] * 15, SLOT_2_2),
+                        (right, SLOT_2_2, SLOT_2_2[:-1]), (right, SLOT_2_2[:-1], SLOT_2_2),
+                        (right[:-1], SLOT_2_2, SLOT_2_2)]:
+        check(view_is([], *where, tower, a, b), "3 to 5", tower, a, b)
+    check(view_is([], 2, 2, four((2, 1)), right, SLOT_2_2, SLOT_2_2), "2")
+    check(view_is([], 1, 2, four((2, 2)), right, SLOT_2_2, SLOT_2_2), "1")
+
+
+def reasons_of_view(check):
+    """The cases have every reason for an empty part, and views of a and of b."""
+    met = set()
+    for arguments in (case for group in cases_view.VIEW for case in group()):
+        number, (a, b) = calls.number_of_view(*arguments), arguments[4:]
+        met.add(number if number else ("degrees", min(a[0], 0), min(b[0], 0),
+                                       (a[0] > b[0]) - (a[0] < b[0])))
+    check(met == {1, 2, 3, 4, 5, ("degrees", -1, -1, 0), ("degrees", -1, 0, -1),
+                  ("degrees", 0, -1, 1), ("degrees", 0, 0, -1), ("degrees", 0, 0, 0),
+                  ("degrees", 0, 0, 1)}, "reasons of a view", met)
 
 
 # a, b, a + b and a - b by hand: modulo p, and over T7, p = 7 with m_1 = z^2 + 5.

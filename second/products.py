@@ -6,7 +6,7 @@ slots, factor buffer and work store are not tested', and here they are not read.
 
 from second import ring, words
 from second.calls import (
-    answer_of, as_found, coefficients_in, first_number, rewritten, slot_tests,
+    answer_of, as_found, cleared, coefficients_in, first_number, rewritten, slot_tests,
     tower_tests, used_degrees)
 
 
@@ -35,12 +35,6 @@ def not_monic(levels, four_degrees, b):
     return not ring.is_monic(levels, words.slot_from_words(degrees, b))
 
 
-def cleared(degrees, work):
-    """'the needed work words are 0 and those beyond are as before'."""
-    needed = words.product_work(degrees)
-    return [0] * needed + work[needed:]
-
-
 def polynomial_product(p, levels, four_degrees, tower, a, b, c, work):
     """'product 1 to 7': a times b goes into c."""
     number = first_number(tests_to_seven(
@@ -52,7 +46,8 @@ def polynomial_product(p, levels, four_degrees, tower, a, b, c, work):
                                  words.slot_from_words(degrees, a),
                                  words.slot_from_words(degrees, b))
     return answer_of(0), (), (list(tower), list(a), list(b),
-                              rewritten(degrees, c, product), cleared(degrees, work))
+                              rewritten(degrees, c, product),
+                              cleared(words.product_work(degrees), work))
 
 
 def polynomial_division(p, levels, four_degrees, tower, a, b, q, work):
@@ -67,4 +62,5 @@ def polynomial_division(p, levels, four_degrees, tower, a, b, q, work):
         words.tower_from_words(p, degrees, tower), levels,
         words.slot_from_words(degrees, a), words.slot_from_words(degrees, b))
     return answer_of(0), (), (list(tower), rewritten(degrees, a, remainder), list(b),
-                              rewritten(degrees, q, quotient), cleared(degrees, work))
+                              rewritten(degrees, q, quotient),
+                              cleared(words.product_work(degrees), work))

@@ -3,7 +3,7 @@
 import itertools
 
 from second.ring import (
-    Tower, degree, one, part_below, poly_divide, poly_multiply, top_level,
+    Tower, degree, negate, one, part_below, poly_divide, poly_multiply, top_level,
     tower_polynomial, without_trailing_zeros, zero)
 
 
@@ -80,6 +80,22 @@ def power_tower(modulus, degrees):
     """The tower in which each m_i is a power of z_i."""
     return Tower(modulus, tuple((zero(level),) * d + (one(level),)
                                 for level, d in enumerate(degrees)))
+
+
+def field_tower(p, levels):
+    """Square roots on square roots: a field for a prime p of the form 4k + 3.
+
+    z_1^2 = -1; z_2^2 = 1 + k * z_1, whose norm 1 + k^2 is no square; from then on
+    z_i^2 = z_(i-1). An element of each field is a square exactly when its norm to
+    the one below is, and the norm of z_i is -z_i^2.
+    """
+    k = next(k for k in range(1, p) if pow(1 + k * k, (p - 1) // 2, p) == p - 1)
+    squares = [p - 1, (1, k), ((), (1,)), ((), ((1,),))]
+    tower = Tower(p, ())
+    for level, square in enumerate(squares[:levels]):
+        m = (negate(tower, level, square), zero(level), one(level))
+        tower = Tower(p, tower.polynomials + (m,))
+    return tower
 
 
 # Which towers are without factors.

@@ -3,7 +3,8 @@
 Run: python3 second/vectors.py, or with --check to compare only
 A line of stdin is a call's name and its arguments, a lent list as its count and
 its words. A line of stdout is the name, the answer, what stands beside it, and
-every lent list as it must be afterwards.
+every lent list as it must be afterwards. The leading view has no answer; the words
+that it shows stand beside it, as a list.
 """
 
 import argparse
@@ -16,21 +17,39 @@ ROOT = os.path.dirname(os.path.dirname(os.path.abspath(__file__)))
 sys.path.insert(0, ROOT)
 
 from second import (
-    calls, cases_division, cases_numbers, cases_product, cases_slot, cases_sum,
-    cases_tower, products)
+    calls, cases_division, cases_gcd, cases_inverse, cases_numbers, cases_product,
+    cases_slot, cases_sum, cases_tower, cases_view, products, sequence_calls)
 
-# The name in a line, the call, the groups of its cases, and the numbers it can give.
+
+def answers(numbers, levels=()):
+    """What the cases of a call must meet: done, these refusals, factors at these levels."""
+    return ({("done",)} | {("refused", number) for number in numbers}
+            | {("factor", level) for level in levels})
+
+
+# The name in a line, the call, the groups of its cases, and the answers it can give;
+# number 11 is never given.
 CALLS = [
-    ("fraction", calls.residue_of_fraction, cases_numbers.FRACTION, {1, 10}),
-    ("sizes", calls.work_sizes, cases_numbers.SIZES, {2, 5}),
-    ("tower", calls.check_tower, cases_tower.TOWER, {1, 2, 3}),
-    ("slot", calls.check_slot, cases_slot.SLOT, {1, 2, 3, 4, 5}),
-    ("sum", calls.polynomial_sum, cases_sum.SUM, {1, 2, 3, 4, 5, 6}),
-    ("difference", calls.polynomial_difference, cases_sum.SUM, {1, 2, 3, 4, 5, 6}),
-    ("product", products.polynomial_product, cases_product.PRODUCT, set(range(1, 8))),
+    ("fraction", calls.residue_of_fraction, cases_numbers.FRACTION, answers([1, 10])),
+    ("sizes", calls.work_sizes, cases_numbers.SIZES, answers([2, 5])),
+    ("tower", calls.check_tower, cases_tower.TOWER, answers(range(1, 4))),
+    ("slot", calls.check_slot, cases_slot.SLOT, answers(range(1, 6))),
+    ("view", calls.leading_view, cases_view.VIEW, {()}),
+    ("sum", calls.polynomial_sum, cases_sum.SUM, answers(range(1, 7))),
+    ("difference", calls.polynomial_difference, cases_sum.SUM, answers(range(1, 7))),
+    ("product", products.polynomial_product, cases_product.PRODUCT,
+     answers(range(1, 8))),
     ("division", products.polynomial_division, cases_division.DIVISION,
-     set(range(1, 9))),
+     answers(range(1, 9))),
+    ("inverse", sequence_calls.element_inverse, cases_inverse.INVERSE,
+     answers([1, 2, 3, 4, 5, 7, 9], range(5))),
+    ("gcd", sequence_calls.polynomial_gcd, cases_gcd.GCD,
+     answers(range(1, 8), range(5))),
 ]
+
+# Calls that the program `vectors` does not make yet: their lines are made and
+# counted, but not written. Empty it when the program makes them.
+NOT_YET = {"inverse", "gcd"}
 
 # Every call has at least so many cases.
 LEAST = 1000
@@ -62,24 +81,25 @@ def lines_of(name, call, groups):
     return list(asked), answered, counts
 
 
-def report(name, counts, numbers):
+def report(name, counts, expected):
     """How many cases, and how many for each answer; none may be missing."""
-    parts = [f"{' '.join(map(str, answer))}: {counts[answer]}"
+    parts = [f"{' '.join(map(str, answer)) or 'no answer'}: {counts[answer]}"
              for answer in sorted(counts)]
-    print(f"{name}: {sum(counts.values())} cases, {', '.join(parts)}")
-    met = {answer[1] for answer in counts if answer[0] == "refused"}
-    if sum(counts.values()) < LEAST or met != numbers or ("done",) not in counts:
+    written = " (not written yet)" if name in NOT_YET else ""
+    print(f"{name}{written}: {sum(counts.values())} cases, {', '.join(parts)}")
+    if sum(counts.values()) < LEAST or set(counts) != expected:
         sys.exit(f"{name}: too few cases, or an answer that none of them gives")
 
 
 def files():
     """The text of each file of the program's, by its path; tells the counts."""
     stdin, stdout = [], []
-    for name, call, groups, numbers in CALLS:
+    for name, call, groups, expected in CALLS:
         asked, answered, counts = lines_of(name, call, groups)
-        stdin += asked
-        stdout += answered
-        report(name, counts, numbers)
+        report(name, counts, expected)
+        if name not in NOT_YET:
+            stdin += asked
+            stdout += answered
     folder = os.path.join(ROOT, "crates", "vectors")
     return {os.path.join(folder, "stdin"): "".join(stdin),
             os.path.join(folder, "stdout"): "".join(stdout)}

@@ -4,6 +4,7 @@ pub mod Order
 pub mod Working
 pub mod Shapes
 pub mod Quotients
+pub mod Viewing
 pub mod Summing
 pub mod Slotting
 pub mod Multiplying

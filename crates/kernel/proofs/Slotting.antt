@@ -11,7 +11,7 @@
 -- cleared-none, cleared-by     == the work store after Done: at level 0, and else;  clear-room, store-cleared == with the values that the calls gave
 use Rattle.kernel.proofs.Order.{then-first, then-next, zero-of, zero-then, seg-all}
 use Rattle.kernel.proofs.Shapes.{size-found, tower-zero}
-use Rattle.kernel.proofs.Summing.{and-split}
+use Rattle.kernel.proofs.Viewing.{and-split}
 use Rattle.kernel.specs.Calls.{sizeOf, coefficientsOf, lengthOk, formOk, towerTable, towerNumber, shapeNumber}
 use Rattle.kernel.specs.Meaning.{tower-numbered, tower-says, ones}
 use Rattle.kernel.specs.Refusals.{Table, first-append, unless, andThen, passed-of, ordered-numbered}

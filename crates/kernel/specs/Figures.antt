@@ -1,10 +1,10 @@
 -- Document 01's figures, shown of the definitions that the contracts cite: one table under one statement. Where other words of an input do not matter the row
--- says so for all of them. All is closed by computing, but for the long slots of C3, which are in form by a law.
+-- says so for all of them. All is closed by computing, but for the long slots of C3, which are in form by a law, and for C10 of every input.
 --
 -- Figures == the table;  figures == that it holds
-use Prim.Native.Nat.{ℕ, _+_, _*_}
+use Prim.Native.Nat.{ℕ, suc, _+_, _*_}
 use mathlib.Core.Path.{_≡_, refl, ap, _∙_, subst}
-use mathlib.Core.Bool.{true, false}
+use mathlib.Core.Logic.{_⊎_}
 use mathlib.Core.List.{List, [], _∷_, _++_}
 use native.Mathlib.Nat.{lt-irrefl}
 use native.Mathlib.Omega.{arith}
@@ -15,121 +15,32 @@ use Rattle.algebra.specs.Divide.{divide}
 use Rattle.algebra.specs.Quotient.{mulᵛ, oneᵛ, residue as residueᵛ}
 use Rattle.algebra.specs.Series.{_*ˢ_}
 use Rattle.algebra.specs.Vec.{zeroᵛ}
+use Rattle.euclid.specs.Gcd.{make, start, gcd-with}
+use Rattle.euclid.specs.Inverse.{inverse as inverse-of}
 use Rattle.euclid.specs.Number.{rows, inverse₀}
+use Rattle.euclid.specs.Sequence.{seq}
+use Rattle.euclid.specs.Shown.{shownWords}
 use Rattle.tower.specs.Levels.{group}
 use Rattle.tower.specs.Writing.{size, read, reads, write, writes, towerOf, slot-long}
-use Rattle.tower.specs.Form.{copies, zeroWords, formOver, inForm, oneWords, modulusOver, towerForm}
+use Rattle.tower.specs.Form.{zeroWords, formOver, inForm, oneWords, modulusOver, towerForm}
 use Rattle.tower.specs.Limits.{slotLength}
 use Rattle.tower.specs.Unique.{slotCoding}
 use Rattle.tower.specs.Work.{productWork, inverseWork, gcdWork}
-use Rattle.kernel.specs.Refusals.{Said, done, refused, refusal}
-use Rattle.kernel.specs.Calls.{sizeOf, towerNumber, checkTower, slotNumber, checkSlot, Sizes, workNumber, workSizes, Fraction, fractionNumber, fractionResidue, fraction}
-use Rattle.kernel.specs.Slots.{Changed}
-use Rattle.kernel.specs.Sums.{sumNumber, sumWords, sum}
-use Rattle.kernel.specs.Products.{ProductWords, productNumber, productWords, product}
-use Rattle.kernel.specs.Divisions.{DivisionWords, divisionNumber, remainderWords, quotientWords, division}
+use Rattle.kernel.specs.Refusals.{done, refused, refusal}
+use Rattle.kernel.specs.Calls.{sizeOf, towerNumber, checkTower, fractionNumber, fractionResidue, fraction}
+use Rattle.kernel.specs.Slots.{degreeCount, cleared}
+use Rattle.kernel.specs.Products.{productNumber, productWords}
+use Rattle.kernel.specs.Inverses.{inverseNumber, inverseWords}
+use Rattle.kernel.specs.Gcds.{gcdNumber, gcdNeeded, gcdWords, gcd}
+use Rattle.kernel.specs.GcdZeros.{zeroSlotOf, MadeMonic, ShowsIt, gcd-both-zero, gcd-a-zero, gcd-b-zero}
 use Rattle.kernel.specs.Meaning.{tower-says}
-use Rattle.kernel.specs.SlotMeaning.{PolynomialOf, slotOf, slot-passes, slot-given}
-
--- d_1 and d_2
-abbrev pub degrees : ℕ → ℕ → List ℤ
-degrees a b = pos a ∷ pos b ∷ pos 0 ∷ pos 0 ∷ []
-
--- words that are not negative
-abbrev pub plain : List ℕ → List ℤ
-plain [] = []
-plain (n ∷ l) = pos n ∷ plain l
-
--- what the work sizes and the fraction give, and what they refuse
-abbrev pub sizes : ℕ → ℕ → ℕ → Sizes
-sizes m i g = record { said = done; product = m; inverse = i; gcd = g }
-
-abbrev pub no-sizes : ℕ → Sizes
-no-sizes k = record { said = refused k; product = 0; inverse = 0; gcd = 0 }
-
-abbrev pub residue : ℕ → Fraction
-residue r = record { said = done; residue = r }
-
-abbrev pub no-residue : ℕ → Fraction
-no-residue k = record { said = refused k; residue = 0 }
-
--- p = 7, d = (64, 31): the tower with m_i = z_i ^ d_i, and the zero slot of k coefficients
-abbrev pub d64 : List ℕ
-d64 = 64 ∷ 31 ∷ 0 ∷ 0 ∷ []
-
-abbrev pub powers : List ℤ
-powers = pos 31 ∷ (copies 31 (zeroWords d64 1) ++ (oneWords d64 1 ++ (pos 64 ∷ (copies 64 (zeroWords d64 0) ++ oneWords d64 0))))
-
-abbrev pub zeroSlot : ℕ → List ℤ
-zeroSlot k = negsuc 0 ∷ copies k (zeroWords d64 2)
-
-abbrev pub check64 : List ℤ → Said
-check64 a = checkSlot (pos 7) (pos 2) (degrees 64 31) powers a
-
-abbrev pub slot64 : (k : ℕ) → PolynomialOf (pos 7) (pos 2) (degrees 64 31) k → List ℤ
-slot64 k v = slotOf (pos 7) (pos 2) (degrees 64 31) k v
-
--- "T7 is p = 7, m_1 = z² + 5."; the calculator's a and b over it
-abbrev pub t7-words : List ℤ
-t7-words = plain (2 ∷ 5 ∷ 0 ∷ 1 ∷ [])
-
-abbrev pub a7 : List ℤ
-a7 = pos 2 ∷ pos 0 ∷ pos 5 ∷ pos 0 ∷ negsuc 0 ∷ pos 0 ∷ pos 0 ∷ pos 0 ∷ pos 1 ∷ pos 0 ∷ []
-
-abbrev pub b7 : List ℤ
-b7 = plain (1 ∷ 1 ∷ 0 ∷ 6 ∷ 0 ∷ 1 ∷ 0 ∷ [])
-
-abbrev pub check7 : List ℤ → Said
-check7 t = checkTower (pos 7) (pos 1) (degrees 2 0) t
-
-abbrev pub slot7 : List ℤ → Said
-slot7 a = checkSlot (pos 7) (pos 1) (degrees 2 0) t7-words a
-
--- what a call leaves: Done and the words that it may change, or a refusal and these as found
-abbrev pub left : {A : Type 0} → A → Changed A
-left w = record { said = done; words = w }
-
-abbrev pub kept : {A : Type 0} → ℕ → A → Changed A
-kept k w = record { said = refused k; words = w }
-
--- p = 6, N = 0; T7
-abbrev pub plus6 : List ℤ → List ℤ → Changed (List ℤ)
-plus6 a b = sum false (pos 6) (pos 0) (degrees 0 0) [] a b
-
-abbrev pub minus6 : List ℤ → List ℤ → Changed (List ℤ)
-minus6 a b = sum true (pos 6) (pos 0) (degrees 0 0) [] a b
-
-abbrev pub minus7 : List ℤ → List ℤ → Changed (List ℤ)
-minus7 a b = sum true (pos 7) (pos 1) (degrees 2 0) t7-words a b
-
--- the words of c and of the work store; those of a, of q and of the work store
-abbrev pub c-work : List ℤ → List ℤ → ProductWords
-c-work c v = record { product = c; work = v }
-
-abbrev pub a-q-work : List ℤ → List ℤ → List ℤ → DivisionWords
-a-q-work a q v = record { remainder = a; quotient = q; work = v }
-
--- n words k
-abbrev pub words : ℕ → ℕ → List ℤ
-words n k = copies n (pos k ∷ [])
-
--- p = 5, d = (3, 2), m_2 = y² + z·y + z² + 2, m_1 = z³ + z + 1: (y + z)x + 1 times z²·y + 3
-abbrev pub times5 : List ℤ → List ℤ → Changed ProductWords
-times5 c v =
-    product (pos 5) (pos 2) (degrees 3 2) (plain (2 ∷ 2 ∷ 2 ∷ 0 ∷ 1 ∷ 1 ∷ 0 ∷ 1 ∷ 0 ∷ 0 ∷ 1 ∷ 0 ∷ 0 ∷ 3 ∷ 1 ∷ 1 ∷ 0 ∷ 1 ∷ []))
-    (plain (1 ∷ 0 ∷ 0 ∷ 1 ∷ 0 ∷ 0 ∷ []) ++ (negsuc 0 ∷ plain (0 ∷ 0 ∷ 0 ∷ 1 ∷ 1 ∷ 0 ∷ 1 ∷ 0 ∷ 0 ∷ 1 ∷ 0 ∷ 0 ∷ [])))
-    (plain (0 ∷ 1 ∷ 0 ∷ 3 ∷ 0 ∷ 0 ∷ 2 ∷ 0 ∷ 0 ∷ 1 ∷ []))
-    c v
-
-abbrev pub times6 : List ℤ → List ℤ → List ℤ → List ℤ → Changed ProductWords
-times6 a b c v = product (pos 6) (pos 0) (degrees 0 0) [] a b c v
-
-abbrev pub by6 : List ℤ → List ℤ → List ℤ → List ℤ → Changed DivisionWords
-by6 a b q v = division (pos 6) (pos 0) (degrees 0 0) [] a b q v
-
--- a over T7, divided
-abbrev pub by7 : List ℤ → List ℤ → List ℤ → Changed DivisionWords
-by7 b q v = division (pos 7) (pos 1) (degrees 2 0) t7-words a7 b q v
+use Rattle.kernel.specs.SlotMeaning.{PolynomialOf, slot-passes, slot-given}
+use Rattle.kernel.specs.FigureWords.{degrees, plain, words, left, met, kept, residue, no-residue, c-work, r-f-work, g-f-work}
+use Rattle.kernel.specs.FigureWords.{d64, powers, zeroSlot, check64, slot64, times5, inverse6, gcd7, none-t7, x-t7, z+3-t7, z+6-t7, inverse-t7, gcd-t7}
+use Rattle.kernel.specs.FigureWords.{inverse-t4, times-t4}
+use Rattle.kernel.specs.FigureChecks.{Checks, checks as checks-hold}
+use Rattle.kernel.specs.FigurePolynomials.{Polynomials, polynomials as polynomials-hold}
+use Rattle.kernel.specs.FigureSequences.{Sequences, sequences as sequences-hold}
 
 pub record Figures : Type 0 where
   -- C1 "p = 1 gives 1; 2 and 2,147,483,647 pass; 2,147,483,648 gives 1."
@@ -155,81 +66,51 @@ pub record Figures : Type 0 where
   pub c4-short : times5 (words 19 4) (words 37 1) ≡ kept 7 (c-work (words 19 4) (words 37 1))
   pub c4-pass : times5 (words 19 4) (words 38 1)
       ≡ left (c-work (plain (1 ∷ 1 ∷ 0 ∷ 3 ∷ 0 ∷ 0 ∷ 2 ∷ 0 ∷ 0 ∷ 1 ∷ 1 ∷ 2 ∷ 0 ∷ 4 ∷ 4 ∷ 0 ∷ 3 ∷ 0 ∷ 0 ∷ [])) (words 38 0))
+  -- C5 "p = 6, N = 0: inverse of 5 is 5; of 4, factor 2 at level 0; of 0, refused 9.": no work word is needed or cleared
+  pub c5-five : inverse6 (words 1 5) (words 1 9) (words 1 8) (words 2 7) ≡ left (r-f-work (words 1 5) (words 1 8) (words 2 7))
+  pub c5-four : inverse6 (words 1 4) (words 1 9) (words 1 8) (words 2 7) ≡ met 0 (r-f-work (words 1 9) (words 1 2) (words 2 7))
+  pub c5-zero : inverse6 (words 1 0) (words 1 9) (words 1 8) (words 2 7) ≡ kept 9 (r-f-work (words 1 9) (words 1 8) (words 2 7))
+  -- C6 "T7: inverse of 1 6 1 (z + 6) is 1 1 1 (z + 1).": I(1) = 20 of 22 work words are cleared
+  pub c6 : inverse-t7 (plain (1 ∷ 6 ∷ 1 ∷ [])) (words 3 9) (words 3 8) (words 22 7)
+      ≡ left (r-f-work (plain (1 ∷ 1 ∷ 1 ∷ [])) (words 3 8) (words 20 0 ++ words 2 7))
+  -- C7 "T7: z + 3 shows factor 1 3 1 at level 1."
+  pub c7 : inverse-t7 (plain (1 ∷ 3 ∷ 1 ∷ [])) (words 3 9) (words 3 8) (words 22 7)
+      ≡ met 1 (r-f-work (words 3 9) (plain (1 ∷ 3 ∷ 1 ∷ [])) (words 20 0 ++ words 2 7))
+  -- C8 "p = 7, N = 0: GCD of 2 6 0 1 and 2 1 2 1 into three coefficients is 1 1 1 0.": 4 + 4 + 2 of 12 work words are cleared
+  pub c8 : gcd7 (plain (2 ∷ 6 ∷ 0 ∷ 1 ∷ [])) (plain (2 ∷ 1 ∷ 2 ∷ 1 ∷ [])) (words 4 9) (words 1 8) (words 12 7)
+      ≡ left (g-f-work (plain (1 ∷ 1 ∷ 1 ∷ 0 ∷ [])) (words 1 8) (words 10 0 ++ words 2 7))
+  -- C9 "T7: a = (z + 3)x + 1, b = x: factor 1 3 1 at level 1, answer slot untouched.": 7 + 7 + 6 + 20 of 42 work words are cleared
+  pub c9 : gcd-t7 z+3-t7 x-t7 (words 7 9) (words 3 8) (words 42 7) ≡ met 1 (g-f-work (words 7 9) (plain (1 ∷ 3 ∷ 1 ∷ [])) (words 40 0 ++ words 2 7))
+  -- C10 "Both zero: the zero slot. One zero: the other made monic, or the factor its leading coefficient shows.": for every input
+  pub c10-both-zero : (p n : ℤ) (e t a b g f v : List ℤ) → gcdNumber p n e t a b g f v ≡ 0 → degreeCount a ≡ 0 → degreeCount b ≡ 0
+      → gcd p n e t a b g f v ≡ left (g-f-work (zeroSlotOf n e g) f (cleared (gcdNeeded n e a b) v))
+  pub c10-a-zero : (p n : ℤ) (e t a b g f v : List ℤ) → gcdNumber p n e t a b g f v ≡ 0 → (d : ℕ) → degreeCount a ≡ 0 → degreeCount b ≡ suc d
+      → MadeMonic p n e t a b g f v b d ⊎ ShowsIt p n e t a b g f v b d
+  pub c10-b-zero : (p n : ℤ) (e t a b g f v : List ℤ) → gcdNumber p n e t a b g f v ≡ 0 → (d : ℕ) → degreeCount a ≡ suc d → degreeCount b ≡ 0
+      → MadeMonic p n e t a b g f v a d ⊎ ShowsIt p n e t a b g f v a d
+  -- and over T7: zero and zero; zero and (z + 6)x + 1 either way round, x + z + 1; zero and (z + 3)x + 1 either way round
+  pub c10-none : gcd-t7 none-t7 none-t7 (words 7 9) (words 3 8) (words 29 7)
+      ≡ left (g-f-work (negsuc 0 ∷ negsuc 0 ∷ pos 0 ∷ pos 0 ∷ negsuc 0 ∷ pos 0 ∷ pos 0 ∷ []) (words 3 8) (words 28 0 ++ words 1 7))
+  pub c10-right : gcd-t7 none-t7 z+6-t7 (words 7 9) (words 3 8) (words 35 7)
+      ≡ left (g-f-work (plain (1 ∷ 1 ∷ 1 ∷ 1 ∷ 0 ∷ 1 ∷ 0 ∷ [])) (words 3 8) (words 34 0 ++ words 1 7))
+  pub c10-left : gcd-t7 z+6-t7 none-t7 (words 7 9) (words 3 8) (words 35 7)
+      ≡ left (g-f-work (plain (1 ∷ 1 ∷ 1 ∷ 1 ∷ 0 ∷ 1 ∷ 0 ∷ [])) (words 3 8) (words 34 0 ++ words 1 7))
+  pub c10-right-factor : gcd-t7 none-t7 z+3-t7 (words 7 9) (words 3 8) (words 35 7)
+      ≡ met 1 (g-f-work (words 7 9) (plain (1 ∷ 3 ∷ 1 ∷ [])) (words 34 0 ++ words 1 7))
+  pub c10-left-factor : gcd-t7 z+3-t7 none-t7 (words 7 9) (words 3 8) (words 35 7)
+      ≡ met 1 (g-f-work (words 7 9) (plain (1 ∷ 3 ∷ 1 ∷ [])) (words 34 0 ++ words 1 7))
   -- C11 "p = 17: -1/5 has residue 10; p = 7: 1/7 gives 10 as refusal."
   pub c11-residue : fraction (pos 17) (negsuc 0) (pos 5) ≡ residue 10
   pub c11-none : fraction (pos 7) (pos 1) (pos 7) ≡ no-residue 10
-  -- "For d = (3, 2): S = 1, 4, 9; M(2) = 38, I(2) = 90." and for degrees 2 and 1: 28 + 19 + 18 + 90
-  pub s0 : sizeOf (pos 0) (degrees 3 2) ≡ 1
-  pub s1 : sizeOf (pos 1) (degrees 3 2) ≡ 4
-  pub s2 : sizeOf (pos 2) (degrees 3 2) ≡ 9
-  pub work : workSizes (pos 2) (degrees 3 2) (pos 2) (pos 1) ≡ sizes 38 90 155
-  -- degrees from -1 to 255; no level
-  pub work-most : workSizes (pos 2) (degrees 3 2) (negsuc 0) (pos 255) ≡ sizes 38 90 2414
-  pub work-low : workSizes (pos 2) (degrees 3 2) (negsuc 1) (pos 1) ≡ no-sizes 5
-  pub work-high : workSizes (pos 2) (degrees 3 2) (pos 2) (pos 256) ≡ no-sizes 5
-  pub work-flat : workSizes (pos 0) (degrees 0 0) (pos 3) (pos 2) ≡ sizes 0 0 11
-  pub work-levels : (e : List ℤ) (a b : ℤ) → workSizes (pos 5) e a b ≡ no-sizes 2
-  -- T7, and what is not a tower: not monic, a word 7, a word too few, a word too many, the degree 1
-  pub t7 : check7 t7-words ≡ done
-  pub t7-monic : check7 (plain (2 ∷ 5 ∷ 0 ∷ 2 ∷ [])) ≡ refused 3
-  pub t7-seven : check7 (plain (2 ∷ 7 ∷ 0 ∷ 1 ∷ [])) ≡ refused 3
-  pub t7-short : check7 (plain (2 ∷ 5 ∷ 0 ∷ [])) ≡ refused 3
-  pub t7-long : check7 (plain (2 ∷ 5 ∷ 0 ∷ 1 ∷ 0 ∷ [])) ≡ refused 3
-  pub t7-degree : check7 (plain (1 ∷ 5 ∷ 1 ∷ 0 ∷ [])) ≡ refused 3
-  -- the calculator's a and b over T7; and a with a zero leading coefficient, with a coefficient above its degree, with a zero not in form, and a word too few
-  pub slot-a : slot7 a7 ≡ done
-  pub slot-b : slot7 b7 ≡ done
-  pub slot-lead : slot7 (pos 2 ∷ pos 0 ∷ pos 5 ∷ pos 0 ∷ pos 0 ∷ pos 1 ∷ pos 0 ∷ negsuc 0 ∷ pos 0 ∷ pos 0 ∷ []) ≡ refused 5
-  pub slot-above : slot7 (pos 1 ∷ pos 0 ∷ pos 5 ∷ pos 0 ∷ pos 0 ∷ pos 1 ∷ pos 0 ∷ pos 0 ∷ pos 1 ∷ pos 0 ∷ []) ≡ refused 5
-  pub slot-zero : slot7 (pos 2 ∷ pos 0 ∷ pos 5 ∷ pos 0 ∷ negsuc 0 ∷ pos 1 ∷ pos 0 ∷ pos 0 ∷ pos 1 ∷ pos 0 ∷ []) ≡ refused 5
-  pub slot-short : slot7 (pos 2 ∷ pos 0 ∷ pos 5 ∷ pos 0 ∷ negsuc 0 ∷ pos 0 ∷ pos 0 ∷ pos 0 ∷ pos 1 ∷ []) ≡ refused 4
-  pub slot-empty : slot7 [] ≡ refused 4
-  pub slot-none : slot7 (negsuc 0 ∷ []) ≡ refused 4
-  -- both ends of the signed words, modulo 2,147,483,647, where 2^63 is 2; e from 1 on, and nothing of e where p is out of range
-  pub fraction-least : fraction (pos 2147483647) (negsuc 9223372036854775807) (pos 1) ≡ residue 2147483645
-  pub fraction-half : fraction (pos 2147483647) (negsuc 9223372036854775807) (pos 2) ≡ residue 2147483646
-  pub fraction-most : fraction (pos 2147483647) (pos 9223372036854775807) (pos 1) ≡ residue 1
-  pub fraction-below : fraction (pos 2147483647) (pos 1) (pos 9223372036854775807) ≡ residue 1
-  pub fraction-shared : fraction (pos 6) (pos 1) (pos 4) ≡ no-residue 10
-  pub fraction-zero : (n : ℤ) → fraction (pos 7) n (pos 0) ≡ no-residue 10
-  pub fraction-negative : (n : ℤ) (m : ℕ) → fraction (pos 7) n (negsuc m) ≡ no-residue 10
-  pub fraction-p : (n e : ℤ) → fraction (pos 2147483648) n e ≡ no-residue 1
-  -- p below 0, N of 5 or -1, a degree that is not used and not 0
-  pub p-negative : (m : ℕ) (n : ℤ) (e t : List ℤ) → checkTower (negsuc m) n e t ≡ refused 1
-  pub five-levels : (e t : List ℤ) → checkTower (pos 7) (pos 5) e t ≡ refused 2
-  pub below-zero : (e t : List ℤ) → checkTower (pos 7) (negsuc 0) e t ≡ refused 2
-  pub not-used : (t : List ℤ) → checkTower (pos 7) (pos 1) (degrees 2 3) t ≡ refused 2
-  -- sums and differences: modulo 6 the leading coefficients cancel; over T7 a - a is the zero slot; b may stand in a longer slot; no room for x in one coefficient
-  pub sum-falls : plus6 (plain (1 ∷ 1 ∷ 3 ∷ [])) (plain (1 ∷ 2 ∷ 3 ∷ [])) ≡ left (plain (0 ∷ 3 ∷ 0 ∷ []))
-  pub minus-order : minus6 (plain (0 ∷ 1 ∷ [])) (plain (0 ∷ 3 ∷ [])) ≡ left (plain (0 ∷ 4 ∷ []))
-  pub minus-same : minus7 b7 b7 ≡ left (negsuc 0 ∷ negsuc 0 ∷ pos 0 ∷ pos 0 ∷ negsuc 0 ∷ pos 0 ∷ pos 0 ∷ [])
-  pub sum-longer : plus6 (plain (0 ∷ 5 ∷ [])) (plain (0 ∷ 5 ∷ 0 ∷ [])) ≡ left (plain (0 ∷ 4 ∷ []))
-  pub sum-room : plus6 (plain (0 ∷ 5 ∷ [])) (plain (1 ∷ 0 ∷ 1 ∷ [])) ≡ kept 6 (plain (0 ∷ 5 ∷ []))
-  -- 4 before 5: a not in form, b without a coefficient
-  pub sum-first : plus6 (plain (0 ∷ 6 ∷ [])) (plain (0 ∷ [])) ≡ kept 4 (plain (0 ∷ 6 ∷ []))
-  pub sum-form : plus6 (plain (0 ∷ 5 ∷ [])) (plain (0 ∷ 6 ∷ [])) ≡ kept 5 (plain (0 ∷ 5 ∷ []))
-  -- "Modulo 6, (2x + 1)(3x + 1) = 5x + 1.": c needs three coefficients all the same; by zero it needs one. Without a tower no work word is needed or cleared
-  pub product-falls : times6 (plain (1 ∷ 1 ∷ 2 ∷ [])) (plain (1 ∷ 1 ∷ 3 ∷ [])) (words 4 9) (words 2 9) ≡ left (c-work (plain (1 ∷ 1 ∷ 5 ∷ 0 ∷ [])) (words 2 9))
-  pub product-room : times6 (plain (1 ∷ 1 ∷ 2 ∷ [])) (plain (1 ∷ 1 ∷ 3 ∷ [])) (words 3 9) (words 2 9) ≡ kept 6 (c-work (words 3 9) (words 2 9))
-  pub product-zero : times6 (negsuc 0 ∷ plain (0 ∷ [])) (plain (1 ∷ 1 ∷ 3 ∷ [])) (words 2 9) [] ≡ left (c-work (negsuc 0 ∷ plain (0 ∷ [])) [])
-  pub product-by-zero : times6 (plain (1 ∷ 1 ∷ 3 ∷ [])) (negsuc 0 ∷ plain (0 ∷ [])) (words 2 9) [] ≡ left (c-work (negsuc 0 ∷ plain (0 ∷ [])) [])
-  -- 4 looks at c too, before the form of a
-  pub product-first : times6 (plain (0 ∷ 6 ∷ [])) (plain (0 ∷ 1 ∷ [])) (words 1 9) [] ≡ kept 4 (c-work (words 1 9) [])
-  -- the calculator's division over T7, into a slot of three coefficients: x² + 5 is (x + z)(x + 6z). M(1) = 8 of nine work words are cleared
-  pub division-t7 : by7 b7 (words 10 9) (words 9 9)
-      ≡ left (a-q-work
-      (negsuc 0 ∷ negsuc 0 ∷ pos 0 ∷ pos 0 ∷ negsuc 0 ∷ pos 0 ∷ pos 0 ∷ negsuc 0 ∷ pos 0 ∷ pos 0 ∷ [])
-      (plain (1 ∷ 1 ∷ 0 ∷ 1 ∷ 0 ∷ 1 ∷ 0 ∷ []) ++ (negsuc 0 ∷ plain (0 ∷ 0 ∷ [])))
-      (words 8 0 ++ words 1 9))
-  -- no room for x + z in one coefficient; seven work words; "Taking an element for 1 because its degree word is 0": 2 is not 1
-  pub division-room : by7 b7 (words 4 9) (words 9 9) ≡ kept 6 (a-q-work a7 (words 4 9) (words 9 9))
-  pub division-work : by7 (plain (1 ∷ 1 ∷ 0 ∷ 6 ∷ 0 ∷ 2 ∷ 0 ∷ [])) (words 7 9) (words 7 9) ≡ kept 7 (a-q-work a7 (words 7 9) (words 7 9))
-  pub division-monic : by7 (plain (1 ∷ 1 ∷ 0 ∷ 6 ∷ 0 ∷ 2 ∷ 0 ∷ [])) (words 7 9) (words 8 9) ≡ kept 8 (a-q-work a7 (words 7 9) (words 8 9))
-  -- by zero: 8, but 6 where q has not deg a + 2 coefficients
-  pub division-zero : by7 (negsuc 0 ∷ negsuc 0 ∷ plain (0 ∷ 0 ∷ [])) (words 13 9) (words 8 9) ≡ kept 8 (a-q-work a7 (words 13 9) (words 8 9))
-  pub division-zero-room : by7 (negsuc 0 ∷ negsuc 0 ∷ plain (0 ∷ 0 ∷ [])) (words 10 9) (words 8 9) ≡ kept 6 (a-q-work a7 (words 10 9) (words 8 9))
-  -- a dividend below the divisor's degree stays, and the quotient is zero
-  pub division-small : by6 (plain (0 ∷ 5 ∷ [])) (plain (2 ∷ 1 ∷ 0 ∷ 1 ∷ [])) (words 2 9) [] ≡ left (a-q-work (plain (0 ∷ 5 ∷ [])) (negsuc 0 ∷ plain (0 ∷ [])) [])
+  -- C12 "p = 4: the 2z + 1 above.": it "is its own inverse, yet its leading coefficient 2 is shown at level 0"
+  pub c12 : inverse-t4 (plain (1 ∷ 1 ∷ 2 ∷ [])) (words 3 9) (words 3 8) (words 22 7)
+      ≡ met 0 (r-f-work (words 3 9) (plain (2 ∷ 0 ∷ 0 ∷ [])) (words 20 0 ++ words 2 7))
+  pub c12-own : times-t4 (plain (0 ∷ 1 ∷ 1 ∷ 2 ∷ [])) (plain (0 ∷ 1 ∷ 1 ∷ 2 ∷ [])) (words 4 9) (words 8 7)
+      ≡ left (c-work (plain (0 ∷ 0 ∷ 1 ∷ 0 ∷ [])) (words 8 0))
+  -- the other figures, and what each call does at its limits
+  pub checks : Checks
+  pub polynomials : Polynomials
+  pub sequences : Sequences
 
 tower-computes : towerNumber (pos 7) (pos 2) (degrees 64 31) powers ≡ 0
 unfolding size zeroWords formOver inForm oneWords modulusOver towerForm towerNumber
@@ -259,9 +140,9 @@ unfolding zeros
 zero-slot k = slotCoding 7 (lit< tt) d64 2 k .write-zero
 
 pub figures : Figures
-unfolding size zeroWords formOver inForm oneWords modulusOver towerForm slotLength productWork inverseWork gcdWork
-    inverse₀ rows towerNumber slotNumber workNumber fractionNumber fractionResidue sumNumber sumWords read reads write writes
-    productNumber productWords divisionNumber remainderWords quotientWords towerOf divide mulᵛ oneᵛ residueᵛ _*ˢ_
+unfolding size zeroWords formOver inForm oneWords modulusOver towerForm slotLength productWork inverseWork gcdWork read reads write writes towerOf
+    towerNumber fractionNumber fractionResidue productNumber productWords inverseNumber inverseWords gcdNumber gcdWords shownWords
+    gcd-with make start inverse-of inverse₀ rows seq divide mulᵛ oneᵛ residueᵛ _*ˢ_
 figures = record {
   c1-one = λ n e t. refl;
   c1-two = refl;
@@ -281,60 +162,26 @@ figures = record {
   c3-all-more = too-long;
   c4-short = refl;
   c4-pass = refl;
+  c5-five = refl;
+  c5-four = refl;
+  c5-zero = refl;
+  c6 = refl;
+  c7 = refl;
+  c8 = refl;
+  c9 = refl;
+  c10-both-zero = gcd-both-zero;
+  c10-a-zero = gcd-a-zero;
+  c10-b-zero = gcd-b-zero;
+  c10-none = refl;
+  c10-right = refl;
+  c10-left = refl;
+  c10-right-factor = refl;
+  c10-left-factor = refl;
   c11-residue = refl;
   c11-none = refl;
-  s0 = refl;
-  s1 = refl;
-  s2 = refl;
-  work = refl;
-  work-most = refl;
-  work-low = refl;
-  work-high = refl;
-  work-flat = refl;
-  work-levels = λ e a b. refl;
-  t7 = refl;
-  t7-monic = refl;
-  t7-seven = refl;
-  t7-short = refl;
-  t7-long = refl;
-  t7-degree = refl;
-  slot-a = refl;
-  slot-b = refl;
-  slot-lead = refl;
-  slot-above = refl;
-  slot-zero = refl;
-  slot-short = refl;
-  slot-empty = refl;
-  slot-none = refl;
-  fraction-least = refl;
-  fraction-half = refl;
-  fraction-most = refl;
-  fraction-below = refl;
-  fraction-shared = refl;
-  fraction-zero = λ n. refl;
-  fraction-negative = λ n m. refl;
-  fraction-p = λ n e. refl;
-  p-negative = λ m n e t. refl;
-  five-levels = λ e t. refl;
-  below-zero = λ e t. refl;
-  not-used = λ t. refl;
-  sum-falls = refl;
-  minus-order = refl;
-  minus-same = refl;
-  sum-longer = refl;
-  sum-room = refl;
-  sum-first = refl;
-  sum-form = refl;
-  product-falls = refl;
-  product-room = refl;
-  product-zero = refl;
-  product-by-zero = refl;
-  product-first = refl;
-  division-t7 = refl;
-  division-room = refl;
-  division-work = refl;
-  division-monic = refl;
-  division-zero = refl;
-  division-zero-room = refl;
-  division-small = refl;
+  c12 = refl;
+  c12-own = refl;
+  checks = checks-hold;
+  polynomials = polynomials-hold;
+  sequences = sequences-hold;
 }

@@ -5,6 +5,7 @@
 -- ResidueOf p n e r  == r is below p, and e times r is n modulo p;  modZ-negative == what n modulo p is below 0
 -- fraction-residue   == where no number is given the residue is so;  fraction-only == and nothing else is
 -- fraction-answers, fraction-gives == the same of what the call says and gives
+-- FractionMeans, fraction-says, fraction-given == for each number what it says, and that it is given precisely then
 use Prim.Native.Nat.{ℕ, zero, suc, _+_, _-_, _*_, _%_, _≤_, _<_, _∣_}
 use mathlib.Core.Path.{_≡_, refl, sym, ap, _∙_, subst}
 use mathlib.Core.Bool.{Bool, true, false, not}
@@ -236,3 +237,21 @@ module _ (p e : ℤ) where
   fraction-gives n h =
       let none = fraction-answers n 0 .0 h in
       subst (ResidueOf (num p) n (num e)) (sym (residue-given (fractionNumber p e) (fractionResidue p n e) none)) (fraction-residue n none)
+
+-- for each number what it says
+abbrev pub FractionMeans : ℤ → ℤ → ℕ → Type 0
+FractionMeans p e k = ((k ≡ 0) × Coprime p e) ⊎ (((k ≡ 1) × T (not (pOk p))) ⊎ ((k ≡ 10) × NoResidue p e))
+
+module _ (p e : ℤ) where
+  pub fraction-says : (j : ℕ) → fractionNumber p e ≡ j → FractionMeans p e j
+  fraction-says j h = subst (FractionMeans p e) h (which (fraction-numbers p e))
+    where
+      which : (fractionNumber p e ≡ 0) ⊎ ((fractionNumber p e ≡ 1) ⊎ (fractionNumber p e ≡ 10)) → FractionMeans p e (fractionNumber p e)
+      which (inl z) = inl (z, fraction-zero p e .0 z)
+      which (inr (inl z)) = inr (inl (z, fraction-one p e .0 z))
+      which (inr (inr z)) = inr (inr (z, fraction-ten p e .0 z))
+
+  pub fraction-given : (j : ℕ) → FractionMeans p e j → fractionNumber p e ≡ j
+  fraction-given j (inl x) = fraction-zero p e .1 (x .1) ∙ sym (x .0)
+  fraction-given j (inr (inl x)) = fraction-one p e .1 (x .1) ∙ sym (x .0)
+  fraction-given j (inr (inr x)) = fraction-ten p e .1 (x .1) ∙ sym (x .0)

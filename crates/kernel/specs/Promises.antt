@@ -1,9 +1,10 @@
 -- The promises of the public calls, as their contracts cite them, and that each determines what the call gives: two results that it allows are equal.
 -- Lists that are lent to be read only cannot change, by their type.
 --
--- TowerChecked, SlotChecked, SizesGiven, FractionGiven, SumGiven, ProductGiven, DivisionGiven == the promises
+-- TowerChecked, SlotChecked, SizesGiven, FractionGiven, LeadingShown, SumGiven, ProductGiven, DivisionGiven, InverseGiven, GcdGiven == the promises
 -- .. -determined == two results that a promise allows are equal
--- in-order == the tests of each call stand in the order of their numbers;  numbers-used == the numbers of sum, product and division
+-- in-order == the tests of each call stand in the order of their numbers;  numbers-used == those of the leading view, sum,
+-- product, division, inverse and GCD
 use Prim.Native.Nat.{ℕ}
 use mathlib.Core.Path.{_≡_, refl, sym, _∙_}
 use mathlib.Core.Bool.{Bool}
@@ -16,9 +17,12 @@ use Rattle.kernel.specs.Answers.{said, said-inj}
 use lib.Dec.{T}
 use Rattle.kernel.specs.Refusals.{Table, ordered}
 use Rattle.kernel.specs.Calls.{towerTable, checkTower, slotTable, checkSlot, workTable, workSizes, fractionTable, fraction}
+use Rattle.kernel.specs.Views.{viewTable, leadingView}
 use Rattle.kernel.specs.Sums.{sumTable, sum}
 use Rattle.kernel.specs.Products.{productTable, product}
 use Rattle.kernel.specs.Divisions.{divisionTable, division}
+use Rattle.kernel.specs.Inverses.{inverseTable, inverse}
+use Rattle.kernel.specs.Gcds.{gcdTable, gcd}
 
 pub record TowerChecked (p n : ℤ) (e t : List ℤ) (r : Answer) : Type 0 where
   pub answer : said r ≡ checkTower p n e t
@@ -56,6 +60,13 @@ fraction-determined p n e r s h k =
     let residue = h .residue ∙ sym (k .residue) in
     λ i. record { answer = answer i; residue = residue i }
 
+-- the leading view: the words of the part that is shown
+pub record LeadingShown (p n : ℤ) (e t a b r : List ℤ) : Type 0 where
+  pub words : r ≡ leadingView p n e t a b
+
+pub leading-determined : (p n : ℤ) (e t a b r s : List ℤ) → LeadingShown p n e t a b r → LeadingShown p n e t a b s → r ≡ s
+leading-determined p n e t a b r s h k = h .words ∙ sym (k .words)
+
 -- sum and difference: the answer, and a's words afterwards
 pub record SumGiven (neg : Bool) (p n : ℤ) (e t a b : List ℤ) (r : Answer) (a′ : List ℤ) : Type 0 where
   pub answer : said r ≡ sum neg p n e t a b .said
@@ -87,15 +98,42 @@ pub division-determined : (p n : ℤ) (e t a b q v : List ℤ) (r s : Answer) (a
 division-determined p n e t a b q v r s a₁ a₂ q₁ q₂ v₁ v₂ h k =
     (said-inj r s (h .answer ∙ sym (k .answer)), h .remainder ∙ sym (k .remainder), h .quotient ∙ sym (k .quotient), h .work ∙ sym (k .work))
 
+-- inverse: the answer, and the words of r, of the factor buffer and of the work store afterwards
+pub record InverseGiven (p n : ℤ) (e t c r f v : List ℤ) (a : Answer) (r′ f′ v′ : List ℤ) : Type 0 where
+  pub answer : said a ≡ inverse p n e t c r f v .said
+  pub words : r′ ≡ inverse p n e t c r f v .words .inverse
+  pub factor : f′ ≡ inverse p n e t c r f v .words .factor
+  pub work : v′ ≡ inverse p n e t c r f v .words .work
+
+pub inverse-determined : (p n : ℤ) (e t c r f v : List ℤ) (a b : Answer) (r₁ r₂ f₁ f₂ v₁ v₂ : List ℤ)
+    → InverseGiven p n e t c r f v a r₁ f₁ v₁ → InverseGiven p n e t c r f v b r₂ f₂ v₂ → (a ≡ b) × (r₁ ≡ r₂) × (f₁ ≡ f₂) × (v₁ ≡ v₂)
+inverse-determined p n e t c r f v a b r₁ r₂ f₁ f₂ v₁ v₂ h k =
+    (said-inj a b (h .answer ∙ sym (k .answer)), h .words ∙ sym (k .words), h .factor ∙ sym (k .factor), h .work ∙ sym (k .work))
+
+-- GCD: the answer, and the words of g, of the factor buffer and of the work store afterwards
+pub record GcdGiven (p n : ℤ) (e t a b g f v : List ℤ) (r : Answer) (g′ f′ v′ : List ℤ) : Type 0 where
+  pub answer : said r ≡ gcd p n e t a b g f v .said
+  pub words : g′ ≡ gcd p n e t a b g f v .words .gcd
+  pub factor : f′ ≡ gcd p n e t a b g f v .words .factor
+  pub work : v′ ≡ gcd p n e t a b g f v .words .work
+
+pub gcd-determined : (p n : ℤ) (e t a b g f v : List ℤ) (r s : Answer) (g₁ g₂ f₁ f₂ v₁ v₂ : List ℤ)
+    → GcdGiven p n e t a b g f v r g₁ f₁ v₁ → GcdGiven p n e t a b g f v s g₂ f₂ v₂ → (r ≡ s) × (g₁ ≡ g₂) × (f₁ ≡ f₂) × (v₁ ≡ v₂)
+gcd-determined p n e t a b g f v r s g₁ g₂ f₁ f₂ v₁ v₂ h k =
+    (said-inj r s (h .answer ∙ sym (k .answer)), h .words ∙ sym (k .words), h .factor ∙ sym (k .factor), h .work ∙ sym (k .work))
+
 -- "Refusal numbers, tested in this order": so each call's tests stand
 pub record InOrder : Type 0 where
   pub tower : (p n : ℤ) (e t : List ℤ) → T (ordered 1 (towerTable p n e t))
   pub slot : (p n : ℤ) (e t a : List ℤ) → T (ordered 1 (slotTable p n e t a))
   pub sizes : (n : ℤ) (e : List ℤ) (a b : ℤ) → T (ordered 1 (workTable n e a b))
   pub fraction : (p e : ℤ) → T (ordered 1 (fractionTable p e))
+  pub view : (p n : ℤ) (e t a b : List ℤ) → T (ordered 1 (viewTable p n e t a b))
   pub sum : (p n : ℤ) (e t a b : List ℤ) → T (ordered 1 (sumTable p n e t a b))
   pub product : (p n : ℤ) (e t a b c v : List ℤ) → T (ordered 1 (productTable p n e t a b c v))
   pub division : (p n : ℤ) (e t a b q v : List ℤ) → T (ordered 1 (divisionTable p n e t a b q v))
+  pub inverse : (p n : ℤ) (e t c r f v : List ℤ) → T (ordered 1 (inverseTable p n e t c r f v))
+  pub gcd : (p n : ℤ) (e t a b g f v : List ℤ) → T (ordered 1 (gcdTable p n e t a b g f v))
 
 pub in-order : InOrder
 in-order = record {
@@ -103,9 +141,12 @@ in-order = record {
   slot = λ p n e t a. tt;
   sizes = λ n e a b. tt;
   fraction = λ p e. tt;
+  view = λ p n e t a b. tt;
   sum = λ p n e t a b. tt;
   product = λ p n e t a b c v. tt;
   division = λ p n e t a b q v. tt;
+  inverse = λ p n e t c r f v. tt;
+  gcd = λ p n e t a b g f v. tt;
 }
 
 -- the numbers of a table, in the order of its tests
@@ -113,15 +154,22 @@ abbrev pub numbersOf : Table → List ℕ
 numbersOf [] = []
 numbersOf (row ∷ rows) = row .0 ∷ numbersOf rows
 
--- "Numbers used: .. sum and difference 1 to 6; product 1 to 7; division 1 to 8"; number 2 has three tests
+-- "Numbers used: .. leading view 1 to 5; sum and difference 1 to 6; product 1 to 7; division 1 to 8; inverse 1 to 5, 7, 9, 11; GCD 1 to 7, 11"; number 2 has
+-- three tests, and number 11 none: it would be the remainder sequence's answer
 pub record NumbersUsed : Type 0 where
+  pub view : (p n : ℤ) (e t a b : List ℤ) → numbersOf (viewTable p n e t a b) ≡ 1 ∷ 2 ∷ 2 ∷ 2 ∷ 3 ∷ 4 ∷ 5 ∷ []
   pub sum : (p n : ℤ) (e t a b : List ℤ) → numbersOf (sumTable p n e t a b) ≡ 1 ∷ 2 ∷ 2 ∷ 2 ∷ 3 ∷ 4 ∷ 5 ∷ 6 ∷ []
   pub product : (p n : ℤ) (e t a b c v : List ℤ) → numbersOf (productTable p n e t a b c v) ≡ 1 ∷ 2 ∷ 2 ∷ 2 ∷ 3 ∷ 4 ∷ 5 ∷ 6 ∷ 7 ∷ []
   pub division : (p n : ℤ) (e t a b q v : List ℤ) → numbersOf (divisionTable p n e t a b q v) ≡ 1 ∷ 2 ∷ 2 ∷ 2 ∷ 3 ∷ 4 ∷ 5 ∷ 6 ∷ 7 ∷ 8 ∷ []
+  pub inverse : (p n : ℤ) (e t c r f v : List ℤ) → numbersOf (inverseTable p n e t c r f v) ≡ 1 ∷ 2 ∷ 2 ∷ 2 ∷ 3 ∷ 4 ∷ 5 ∷ 7 ∷ 9 ∷ []
+  pub gcd : (p n : ℤ) (e t a b g f v : List ℤ) → numbersOf (gcdTable p n e t a b g f v) ≡ 1 ∷ 2 ∷ 2 ∷ 2 ∷ 3 ∷ 4 ∷ 5 ∷ 6 ∷ 7 ∷ []
 
 pub numbers-used : NumbersUsed
 numbers-used = record {
+  view = λ p n e t a b. refl;
   sum = λ p n e t a b. refl;
   product = λ p n e t a b c v. refl;
   division = λ p n e t a b q v. refl;
+  inverse = λ p n e t c r f v. refl;
+  gcd = λ p n e t a b g f v. refl;
 }

@@ -1,4 +1,4 @@
--- What the numbers say of the calls on two polynomials a and b, stated once for sum, difference, product and division. A call adds which other slots it takes, which
+-- What the numbers say of the calls on two polynomials a and b, stated once for sum, difference, product, division and GCD. A call adds what else it takes, which
 -- slot the answer goes to and the coefficients that it needs there, and what it tests by the numbers above 6. "Refusal numbers, tested in this order": each is
 -- tested of all that is lent before the next.
 --
@@ -6,9 +6,10 @@
 -- Each, OneOf           == P holds of each of some things, of one of them
 -- SlotLong, WorkLong, WorkShort == a slot's length is allowed; the work store is long enough, or not
 -- HoldsOne, HoldsNone   == the words of a slot are those of exactly one polynomial, of none
--- LengthsOut, FormsOut, RoomOut == numbers 4, 5 and 6;  SlotsHeld == none of 1 to 6 applies;  Further == and what a call tests besides
--- SlotsMeans            == for each number what it says; a number that is not used says ⊥
--- Told, slots-means     == what a call's tests say, and that the number which they give is the one that SlotsMeans holds of
+-- LengthsOut, FormsOut, RoomOut == numbers 4, 5 and 6;  LentHeld == none of 1 to 6 applies;  Further == and what a call tests besides
+-- LentMeans             == for each number what it says; a number that is not used says ⊥
+-- Told, lent-means      == what a call's tests say, and that the number which they give is the one that LentMeans holds of
+-- SlotsHeld, SlotsMeans, slots-means == the same where all lengths are those of slots
 -- answered              == what a call says tells the number;  le-iff, lt-iff == the test of two numbers
 -- Allowed               == as many coefficients as a slot may have;  slot-held, degree-low == the words of such a polynomial over a tower;  slots-held ==
 --                          those of two
@@ -71,18 +72,18 @@ module _ {A : Type 0} where
   OneOf P x (y ∷ ys) = P x ⊎ OneOf P y ys
 
   -- a test of each
-  abbrev each : (A → Bool) → A → List A → Bool
+  abbrev pub each : (A → Bool) → A → List A → Bool
   each f x [] = f x
   each f x (y ∷ ys) = f x && each f y ys
 
-  each-iff : (f : A → Bool) (P : A → Type 0) → ((x : A) → T (f x) ↔ P x) → (x : A) (ys : List A) → T (each f x ys) ↔ Each P x ys
+  pub each-iff : (f : A → Bool) (P : A → Type 0) → ((x : A) → T (f x) ↔ P x) → (x : A) (ys : List A) → T (each f x ys) ↔ Each P x ys
   each-iff f P h x [] = h x
   each-iff f P h x (y ∷ ys) =
       let r = each-iff f P h y ys in
       (λ t. (h x .0 (both-l (f x) _ t), r .0 (both-r (f x) _ t)), λ q. both (f x) _ (h x .1 (q .0)) (r .1 (q .1)))
 
   -- it does not pass where it does not pass of one
-  not-each : (f : A → Bool) (Q : A → Type 0) → ((x : A) → T (not (f x)) ↔ Q x) → (x : A) (ys : List A) → T (not (each f x ys)) ↔ OneOf Q x ys
+  pub not-each : (f : A → Bool) (Q : A → Type 0) → ((x : A) → T (not (f x)) ↔ Q x) → (x : A) (ys : List A) → T (not (each f x ys)) ↔ OneOf Q x ys
   not-each f Q h x [] = h x
   not-each f Q h x (y ∷ ys) = not-both (f x) (each f y ys) (h x) (not-each f Q h y ys)
 
@@ -106,69 +107,75 @@ WorkLong n e v = productWork (degreesOf e) (num n) ≤ length v
 abbrev pub WorkShort : ℤ → List ℤ → List ℤ → Type 0
 WorkShort n e v = length v < productWork (degreesOf e) (num n)
 
--- the operands a and b; the slots that are lent are a and the others, b among these; the answer needs r coefficients in c
-module _ (p n : ℤ) (e t a b : List ℤ) (others : List (List ℤ)) (c : List ℤ) (r : ℕ) where
+-- the operands a and b; Long says that the lengths of all that is lent are allowed, Out that one is not; the answer needs r coefficients in c
+module _ (p n : ℤ) (e t a b : List ℤ) (Long Out : Type 0) (c : List ℤ) (r : ℕ) where
   -- 4: over a tower, one of the lengths is not allowed
   pub record LengthsOut : Type 0 where
     pub tower : TowerHeld p n e t
-    pub out : OneOf (λ x. ¬ SlotLong n e x) a others
+    pub out : Out
 
   -- 5: the lengths are allowed, and no polynomial has the words of a, or none those of b
   pub record FormsOut : Type 0 where
     pub tower : TowerHeld p n e t
-    pub long : Each (SlotLong n e) a others
+    pub long : Long
     pub none : HoldsNone p n e a ⊎ HoldsNone p n e b
 
   -- 6: a and b hold polynomials, and c has too few coefficients
   pub record RoomOut : Type 0 where
     pub tower : TowerHeld p n e t
-    pub long : Each (SlotLong n e) a others
+    pub long : Long
     pub held-a : HoldsOne p n e a
     pub held-b : HoldsOne p n e b
     pub small : coefficientsOf n e c < r
 
   -- none of these: a and b hold polynomials over the ring of the tower, and there is room
-  pub record SlotsHeld : Type 0 where
+  pub record LentHeld : Type 0 where
     pub tower : TowerHeld p n e t
-    pub long : Each (SlotLong n e) a others
+    pub long : Long
     pub held-a : HoldsOne p n e a
     pub held-b : HoldsOne p n e b
     pub room : r ≤ coefficientsOf n e c
 
   -- and P, which may compute modulo p
   pub record Further (P : T (pOk p) → Type 0) : Type 0 where
-    pub slots : SlotsHeld
+    pub slots : LentHeld
     pub more : P (slots .tower .range .modulus)
 
   -- for each number what it says: of a call that besides passes where `passes` holds, and tests `seven` and `eight` by these numbers
+  abbrev pub LentMeans : (passes seven eight : T (pOk p) → Type 0) → ℕ → Type 0
+  LentMeans passes seven eight zero = Further passes
+  LentMeans passes seven eight (suc zero) = TowerMeans p n e t 1
+  LentMeans passes seven eight (suc (suc zero)) = TowerMeans p n e t 2
+  LentMeans passes seven eight (suc (suc (suc zero))) = TowerMeans p n e t 3
+  LentMeans passes seven eight (suc (suc (suc (suc zero)))) = LengthsOut
+  LentMeans passes seven eight (suc (suc (suc (suc (suc zero))))) = FormsOut
+  LentMeans passes seven eight (suc (suc (suc (suc (suc (suc zero)))))) = RoomOut
+  LentMeans passes seven eight (suc (suc (suc (suc (suc (suc (suc zero))))))) = Further seven
+  LentMeans passes seven eight (suc (suc (suc (suc (suc (suc (suc (suc zero)))))))) = Further eight
+  LentMeans passes seven eight (suc (suc (suc (suc (suc (suc (suc (suc (suc k))))))))) = ⊥
+
+-- where the slots that are lent are a and the others, b among these
+module _ (p n : ℤ) (e t a b : List ℤ) (others : List (List ℤ)) (c : List ℤ) (r : ℕ) where
+  abbrev pub SlotsHeld : Type 0
+  SlotsHeld = LentHeld p n e t a b (Each (SlotLong n e) a others) (OneOf (λ x. ¬ SlotLong n e x) a others) c r
+
   abbrev pub SlotsMeans : (passes seven eight : T (pOk p) → Type 0) → ℕ → Type 0
-  SlotsMeans passes seven eight zero = Further passes
-  SlotsMeans passes seven eight (suc zero) = TowerMeans p n e t 1
-  SlotsMeans passes seven eight (suc (suc zero)) = TowerMeans p n e t 2
-  SlotsMeans passes seven eight (suc (suc (suc zero))) = TowerMeans p n e t 3
-  SlotsMeans passes seven eight (suc (suc (suc (suc zero)))) = LengthsOut
-  SlotsMeans passes seven eight (suc (suc (suc (suc (suc zero))))) = FormsOut
-  SlotsMeans passes seven eight (suc (suc (suc (suc (suc (suc zero)))))) = RoomOut
-  SlotsMeans passes seven eight (suc (suc (suc (suc (suc (suc (suc zero))))))) = Further seven
-  SlotsMeans passes seven eight (suc (suc (suc (suc (suc (suc (suc (suc zero)))))))) = Further eight
-  SlotsMeans passes seven eight (suc (suc (suc (suc (suc (suc (suc (suc (suc k))))))))) = ⊥
+  SlotsMeans = LentMeans p n e t a b (Each (SlotLong n e) a others) (OneOf (λ x. ¬ SlotLong n e x) a others) c r
 
--- ---- the tests, of the room, by number 7 and by number 8; where a call has no such test it is `true`
-module _ (p n : ℤ) (e t a b : List ℤ) (others : List (List ℤ)) (c : List ℤ) (r : ℕ) (passes seven eight : T (pOk p) → Type 0) (room work monic : Bool) where
-  abbrev lengths : Bool
-  lengths = each (lengthOk n e) a others
+-- ---- the tests behind those of the tower: of all lengths, of the forms, of the room, by number 7 and by number 8; where a call has no such test it is `true`
+abbrev pub lentRows : (p n : ℤ) (e a b : List ℤ) (lengths room work monic : Bool) → Table
+lentRows p n e a b lengths room work monic =
+    (bad-length, λ _. lengths) ∷ formsRow p n e a b ∷ (small-answer, λ _. room) ∷ (small-work, λ _. work) ∷ (not-monic, λ _. monic) ∷ []
 
+module _ (p n : ℤ) (e t a b : List ℤ) (Long Out : Type 0) (c : List ℤ) (r : ℕ) (passes seven eight : T (pOk p) → Type 0) (room work monic : Bool) where
   abbrev forms : Bool
   forms = formOk p n e a && formOk p n e b
 
-  abbrev rows : Table
-  rows = (bad-length, λ _. lengths) ∷ formsRow p n e a b ∷ (small-answer, λ _. room) ∷ (small-work, λ _. work) ∷ (not-monic, λ _. monic) ∷ []
-
   abbrev Held : Type 0
-  Held = SlotsHeld p n e t a b others c r
+  Held = LentHeld p n e t a b Long Out c r
 
   abbrev M : ℕ → Type 0
-  M = SlotsMeans p n e t a b others c r passes seven eight
+  M = LentMeans p n e t a b Long Out c r passes seven eight
 
   -- what the tests of a call say
   pub record Told : Type 0 where
@@ -177,12 +184,9 @@ module _ (p n : ℤ) (e t a b : List ℤ) (others : List (List ℤ)) (c : List �
     pub work-told : (h : Held) → T (not work) ↔ seven (h .tower .range .modulus)
     pub monic-told : (h : Held) → (T work × T (not monic)) ↔ eight (h .tower .range .modulus)
 
-  module _ (told : Told) where
-    long-iff : T lengths ↔ Each (SlotLong n e) a others
-    long-iff = each-iff (lengthOk n e) (SlotLong n e) (length-iff n e) a others
-
-    out-iff : T (not lengths) ↔ OneOf (λ x. ¬ SlotLong n e x) a others
-    out-iff = not-each (lengthOk n e) (λ x. ¬ SlotLong n e x) (λ x. not-iff (lengthOk n e x) (length-iff n e x)) a others
+  module _ (lengths : Bool) (long-iff : T lengths ↔ Long) (out-iff : T (not lengths) ↔ Out) (told : Told) where
+    abbrev rows : Table
+    rows = lentRows p n e a b lengths room work monic
 
     forms-iff : T (pOk p) → T forms ↔ (HoldsOne p n e a × HoldsOne p n e b)
     forms-iff m = each-iff (formOk p n e) (HoldsOne p n e) (form-iff p n e m) a (b ∷ [])
@@ -250,8 +254,18 @@ module _ (p n : ℤ) (e t a b : List ℤ) (others : List (List ℤ)) (c : List �
         let x = told .monic-told (h .slots) .1 (h .more) in
         behind (h .slots) 8 (inr (x .0, inl (x .1, refl)))
 
-    pub slots-means : Means (first (towerTable p n e t ++ rows)) M
-    slots-means = record { says = then-says p n e t rows M (λ x. x) (λ x. x) (λ x. x) of-rows; only = given }
+    pub lent-means : Means (first (towerTable p n e t ++ lentRows p n e a b lengths room work monic)) M
+    lent-means = record { says = then-says p n e t rows M (λ x. x) (λ x. x) (λ x. x) of-rows; only = given }
+
+-- the lengths of slots
+pub slots-means : (p n : ℤ) (e t a b : List ℤ) (others : List (List ℤ)) (c : List ℤ) (r : ℕ) (passes seven eight : T (pOk p) → Type 0) (room work monic : Bool)
+    → Told p n e t a b (Each (SlotLong n e) a others) (OneOf (λ x. ¬ SlotLong n e x) a others) c r passes seven eight room work monic
+    → Means (first (towerTable p n e t ++ lentRows p n e a b (each (lengthOk n e) a others) room work monic)) (SlotsMeans p n e t a b others c r passes seven eight)
+slots-means p n e t a b others c r passes seven eight room work monic told =
+    lent-means p n e t a b _ _ c r passes seven eight room work monic (each (lengthOk n e) a others)
+    (each-iff (lengthOk n e) (SlotLong n e) (length-iff n e) a others)
+    (not-each (lengthOk n e) (λ x. ¬ SlotLong n e x) (λ x. not-iff (lengthOk n e x) (length-iff n e x)) a others)
+    told
 
 -- ---- every two polynomials pass
 -- k coefficients are as many as a slot may have

@@ -1,13 +1,15 @@
 -- Laws of what the calls on polynomials share: what slots hold before and after, and the work store afterwards.
 --
 -- Tested, tested       == what is known where a product or a division gets no number: the tests up to 7, and those that follow
--- ring-held            == the ring is that of the one tower whose words are given
+-- tower-is, ring-held  == the tower, and the ring, are those of the one tower whose words are given
 -- held-below, held-top  == a slot in form holds a polynomial that is zero from its degree word's count on, and not zero under it
 -- held-low, held-few   == that count is not above what the polynomial is zero from, nor above its coefficients
+-- held-words           == the words of a coefficient
 -- held-one             == a coefficient is 1 precisely where its words are those of 1
 -- Written              == a slot in form, as long as another;  slot-written == so are the words of as many coefficients as the other has
 -- slot-holds           == the words of k coefficients hold them;  filled-holds == a slot holds what it is filled with, if that is zero from its coefficients on
--- Cleared              == m words 0 and the others as before;  cleared-words == so they are after Done
+-- zeros-long, zeros-at == m words 0
+-- Cleared              == m words 0 and the others as before;  cleared-words == so they are after Done;  cleared-same == in two stores alike
 -- changed-said         == what a call says is its number;  changed-zero == Done is none
 -- changed-same, filled-same == what two runs leave that give one number
 use Prim.Native.Nat.{ℕ, zero, suc, _+_, _-_, _*_, _/_, _<_, _≤_}
@@ -65,14 +67,19 @@ tested p n e t a b c v r more (modulus, (levels, (degrees, (few, (tower, (length
   rest = rest;
 }
 
--- the ring is that of the one tower whose words are t
-pub ring-held : (p n : ℤ) (e t : List ℤ) (τ : TowerHeld p n e t)
-    → topRing p n e t (τ .range .modulus) ≡ ring (num p) (p-positive p (τ .range .modulus)) (degreesOf e) (num n) (τ .held .this)
-ring-held p n e t τ =
-    let p-pos = p-positive p (τ .range .modulus) in
-    ap (ring (num p) p-pos (degreesOf e) (num n))
-    (ap (towerOf (num p) p-pos (degreesOf e) (num n)) (sym (τ .held .holds))
-    ∙ towerOf-words (num p) p-pos (degreesOf e) (num n) (ones p n e (τ .range)) (τ .held .this))
+-- what is computed in is the one tower whose words are t
+module _ (p n : ℤ) (e t : List ℤ) (τ : TowerHeld p n e t) where
+  abbrev positive : 0 < num p
+  positive = p-positive p (τ .range .modulus)
+
+  pub tower-is : towerOf (num p) positive (degreesOf e) (num n) t ≡ τ .held .this
+  tower-is =
+      ap (towerOf (num p) positive (degreesOf e) (num n)) (sym (τ .held .holds))
+      ∙ towerOf-words (num p) positive (degreesOf e) (num n) (ones p n e (τ .range)) (τ .held .this)
+
+  -- and its ring
+  pub ring-held : topRing p n e t (τ .range .modulus) ≡ ring (num p) (p-positive p (τ .range .modulus)) (degreesOf e) (num n) (τ .held .this)
+  ring-held = ap (ring (num p) positive (degreesOf e) (num n)) tower-is
 
 -- "The whole answer slot is written, the rest of it zeros in form.": x′ is in form, and as long as x
 abbrev pub Written : ℤ → ℤ → List ℤ → List ℤ → List ℤ → Type 0
@@ -111,7 +118,7 @@ module _ (p n : ℤ) (e : List ℤ) (h : T (pOk p)) where
     held-few = count-few (num p) p-pos d (num n) x 0 k _ (slot-stands (num p) p-pos d (num n) k x f)
 
     -- the words of the coefficient at j
-    held-words : (j : ℕ) → j < k → seg (suc (j * sizeOf n e)) (sizeOf n e) x ≡ write (num p) d (num n) (coefficientsIn p n e h x j)
+    pub held-words : (j : ℕ) → j < k → seg (suc (j * sizeOf n e)) (sizeOf n e) x ≡ write (num p) d (num n) (coefficientsIn p n e h x j)
     held-words j l =
         ap (seg (suc (j * sizeOf n e)) (sizeOf n e)) (sym (slot-unslot (num p) p-pos d (num n) k x f))
         ∙ block-up (zero-test (num p) p-pos d (num n)) (size d (num n)) (zeroWords d (num n)) (inForm (num p) d (num n)) (coding (num p) p-pos d (num n)) k
@@ -158,6 +165,15 @@ module _ (p n : ℤ) (e t x : List ℤ) (r : InRange p n e) (f : T (formOk p n e
         λ q. words ∙ ap (write (num p) (degreesOf e) (num n)) q ∙ one-words,
       )
 
+-- ---- m words 0
+pub zeros-long : (m : ℕ) → length (copies m (pos 0 ∷ [])) ≡ m
+zeros-long m = omega (arith, copies-long m 1 (pos 0 ∷ []) refl)
+
+pub zeros-at : (m k : ℕ) → getD (copies m (pos 0 ∷ [])) k (pos 0) ≡ pos 0
+zeros-at zero k = refl
+zeros-at (suc m) zero = refl
+zeros-at (suc m) (suc k) = zeros-at m k
+
 -- ---- the work store
 pub record Cleared (m : ℕ) (v v′ : List ℤ) : Type 0 where
   pub long : length v′ ≡ length v
@@ -167,7 +183,7 @@ pub record Cleared (m : ℕ) (v v′ : List ℤ) : Type 0 where
 pub cleared-words : (m : ℕ) (v : List ℤ) → m ≤ length v → Cleared m v (cleared m v)
 cleared-words m v h = record {
   long = omega (arith, length-append (copies m (pos 0 ∷ [])) (drop m v), many, length-drop m v);
-  below = λ k l. List·getD-append (copies m (pos 0 ∷ [])) (drop m v) (pos 0) k (omega (arith, many)) ∙ zeros m k;
+  below = λ k l. List·getD-append (copies m (pos 0 ∷ [])) (drop m v) (pos 0) k (omega (arith, many)) ∙ zeros-at m k;
   above = λ k l. (let q : k ≡ length (copies m (pos 0 ∷ [])) + (k - m) = omega (arith, many) in
       let q′ : m + (k - m) ≡ k = omega arith in
       ap (λ i. getD (cleared m v) i (pos 0)) q
@@ -177,12 +193,11 @@ cleared-words m v h = record {
 }
   where
     many : length (copies m (pos 0 ∷ [])) ≡ m
-    many = omega (arith, copies-long m 1 (pos 0 ∷ []) refl)
+    many = zeros-long m
 
-    zeros : (m k : ℕ) → getD (copies m (pos 0 ∷ [])) k (pos 0) ≡ pos 0
-    zeros zero k = refl
-    zeros (suc m) zero = refl
-    zeros (suc m) (suc k) = zeros m k
+-- two of them have the same words where they are cleared
+pub cleared-same : (m : ℕ) (v v′ : List ℤ) → m ≤ length v → m ≤ length v′ → (k : ℕ) → k < m → getD (cleared m v) k (pos 0) ≡ getD (cleared m v′) k (pos 0)
+cleared-same m v v′ h h′ k l = cleared-words m v h .below k l ∙ sym (cleared-words m v′ h′ .below k l)
 
 -- ---- two runs
 -- what a call says is its number

@@ -5,7 +5,7 @@
 -- Room s l             == l words are a slot of 1 to 256 coefficients of s words;  room-iff == it is what the test of a length says
 -- room-count           == the coefficients are as many as slotCount says
 -- length-iff           == the test of a slot's length;  form-iff, none-iff == the test of its form, passed and not passed;  not-iff == any
---                         test not passed
+--                         test not passed;  none-of == any test of form not passed
 -- SlotMeans            == for each number what it says; a number that is not used says ⊥
 -- slot-says            == a number that is given comes under its condition;  slot-given == and under its condition it is given
 -- slot-answers         == the same of what the call says
@@ -115,6 +115,14 @@ SlotMeans p n e t a (suc (suc (suc (suc (suc (suc k)))))) = ⊥
 pub not-iff : (b : Bool) {P : Type 0} → T b ↔ P → T (not b) ↔ (¬ P)
 not-iff b h = (λ t x. T-not b t (h .1 x), λ none. not-T b (λ t. none (h .0 t)))
 
+-- words that are not in form are those of nothing
+pub none-of : {A : Type 0} (f : A → List ℤ) (good : List ℤ → Bool) → ((v : A) → T (good (f v))) → (a : List ℤ) → (T (good a) → Exactly f a)
+    → T (not (good a)) ↔ ((v : A) → ¬ (f v ≡ a))
+none-of f good all a one = (
+  λ t v q. T-not (good a) t (subst (λ w. T (good w)) q (all v)),
+  λ none. not-T (good a) (λ g. (let x = one g in none (x .this) (x .holds))),
+)
+
 pub length-iff : (n : ℤ) (e a : List ℤ) → T (lengthOk n e a) ↔ Room (sizeOf n e) (length a)
 length-iff n e a = room-iff (sizeOf n e) (length a) (size-pos (degreesOf e) (num n))
 
@@ -126,10 +134,7 @@ module _ (p n : ℤ) (e : List ℤ) (h : T (pOk p)) (a : List ℤ) where
   form-iff = slot-iff (num p) (p-positive p h) (degreesOf e) (num n) k a
 
   pub none-iff : T (not (formOk p n e a)) ↔ ((v : PolynomialOf p n e k) → ¬ (slotOf p n e k v ≡ a))
-  none-iff = (
-    λ t v q. T-not (formOk p n e a) t (subst (λ w. T (slotForm (num p) (degreesOf e) (num n) k w)) q (slot-form (num p) (p-positive p h) (degreesOf e) (num n) k v)),
-    λ none. not-T (formOk p n e a) (λ f. (let x = form-iff .0 f in none (x .this) (x .holds))),
-  )
+  none-iff = none-of (slotOf p n e k) (slotForm (num p) (degreesOf e) (num n) k) (slot-form (num p) (p-positive p h) (degreesOf e) (num n) k) a (form-iff .0)
 
 module _ (p n : ℤ) (e t a : List ℤ) where
   abbrev pub rows : Table

@@ -15,18 +15,15 @@ use Rattle.tower.specs.Levels.{El, group}
 use Rattle.tower.specs.Limits.{pOk, p-positive, degreesOf}
 use Rattle.tower.specs.Writing.{slot}
 use Rattle.arithmetic.specs.Sum.{slotGained}
-use Rattle.kernel.specs.Refusals.{bad-length, small-answer, Table, first}
-use Rattle.kernel.specs.Calls.{coefficientsOf, lengthOk, towerTable}
-use Rattle.kernel.specs.Slots.{degreeCount, polynomialOf, formsRow, Changed, changedBy}
+use Rattle.kernel.specs.Refusals.{small-answer, Table, first}
+use Rattle.kernel.specs.Calls.{coefficientsOf}
+use Rattle.kernel.specs.Slots.{degreeCount, polynomialOf, Changed, changedBy}
+use Rattle.kernel.specs.Views.{viewTable}
 
--- "sum, max(deg a, deg b) + 1 coefficients in a"
+-- the tests of the leading view, and: "sum, max(deg a, deg b) + 1 coefficients in a"
 abbrev pub sumTable : ℤ → ℤ → List ℤ → List ℤ → List ℤ → List ℤ → Table
 sumTable p n e t a b =
-    towerTable p n e t
-    ++ ((bad-length, λ _. lengthOk n e a && lengthOk n e b)
-    ∷ formsRow p n e a b
-    ∷ (small-answer, λ _. leb (degreeCount a) (coefficientsOf n e a) && leb (degreeCount b) (coefficientsOf n e a))
-    ∷ [])
+    viewTable p n e t a b ++ ((small-answer, λ _. leb (degreeCount a) (coefficientsOf n e a) && leb (degreeCount b) (coefficientsOf n e a)) ∷ [])
 
 unfoldable pub sumNumber : ℤ → ℤ → List ℤ → List ℤ → List ℤ → List ℤ → ℕ
 sumNumber p n e t a b = first (sumTable p n e t a b)

@@ -3,13 +3,13 @@
 --
 -- viewTable, viewNumber == the tests in the order of their numbers, and the number that they give
 -- Part, leadingPart     == a part of a or of b: which slot, where it starts and how many words it has
--- partWords             == the words of a part;  leadingView == those that the call shows
+-- topWords              == the words of a slot's leading coefficient;  partWords == those of a part;  leadingView == those that the call shows
 use Prim.Native.Nat.{ℕ, zero, suc, _*_}
 use mathlib.Core.Bool.{Bool, true, false, _&&_}
 use mathlib.Core.List.{List, [], _∷_, _++_}
 use lib.IntN.{ℤ}
 use lib.Dec.{ltb}
-use lib.ListN.{take, drop}
+use Rattle.tower.specs.Form.{seg}
 use Rattle.kernel.specs.Calls.{sizeOf, lengthOk, towerTable}
 use Rattle.kernel.specs.Refusals.{bad-length, Table, first}
 use Rattle.kernel.specs.Slots.{degreeCount, formsRow}
@@ -26,10 +26,20 @@ pub record Part : Type 0 where
   pub start : ℕ
   pub count : ℕ
 
--- of a slot that has one more coefficient than its degree, the coefficient at the degree; empty where it is zero
+-- the leading coefficient, of s words, in a slot whose degree word counts k coefficients: where it starts, and its words; none in zero
+abbrev pub topStart : ℕ → ℕ → ℕ
+topStart s zero = 0
+topStart s (suc k) = suc (k * s)
+
+abbrev pub topCount : ℕ → ℕ → ℕ
+topCount s zero = 0
+topCount s (suc k) = s
+
 abbrev pub topPart : Bool → ℕ → ℕ → Part
-topPart second s zero = record { second = second; start = 0; count = 0 }
-topPart second s (suc k) = record { second = second; start = suc (k * s); count = s }
+topPart second s k = record { second = second; start = topStart s k; count = topCount s k }
+
+abbrev pub topWords : ℕ → List ℤ → List ℤ
+topWords s x = seg (topStart s (degreeCount x)) (topCount s (degreeCount x)) x
 
 -- b's where it has the higher degree
 abbrev pub higherPart : Bool → ℕ → ℕ → ℕ → Part
@@ -50,7 +60,7 @@ partOf true a b = b
 partOf false a b = a
 
 abbrev pub partWords : Part → List ℤ → List ℤ → List ℤ
-partWords part a b = take (part .count) (drop (part .start) (partOf (part .second) a b))
+partWords part a b = seg (part .start) (part .count) (partOf (part .second) a b)
 
 abbrev pub leadingView : (p n : ℤ) (e t a b : List ℤ) → List ℤ
 leadingView p n e t a b = partWords (leadingPart p n e t a b) a b

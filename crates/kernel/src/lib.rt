@@ -1,13 +1,15 @@
 // The public calls. None has a `requires`: what a call cannot do it refuses, by the first number of document 01's table that applies. What each gives is in
-// specs/Calls.antt, Sums.antt, Products.antt and Divisions.antt, and the promises cite it by name (specs/Promises.antt). The modules are private: what stands in them is no call.
+// specs/Calls.antt, Views.antt, Sums.antt, Products.antt and Divisions.antt, and the promises cite it by name (specs/Promises.antt). The modules are private: what
+// stands in them is no call.
 mod divisions;
 mod fractions;
 mod multiplication;
 mod numbers;
 mod slots;
 mod sums;
+mod views;
 
-ghost use Rattle.kernel.specs.Promises.{TowerChecked, SlotChecked, SizesGiven, FractionGiven, SumGiven, ProductGiven, DivisionGiven};
+ghost use Rattle.kernel.specs.Promises.{TowerChecked, SlotChecked, SizesGiven, FractionGiven, LeadingShown, SumGiven, ProductGiven, DivisionGiven};
 ghost use mathlib.Core.Bool.{true, false};
 use divisions::parted;
 use fractions::no_fraction;
@@ -26,6 +28,7 @@ use tower::words::count;
 use tower::work::gcd_work;
 use tower::work::inverse_work;
 use tower::work::product_work;
+use views::leading;
 
 // Done, a shown factor with its level, or a refusal with its number.
 pub enum Answer {
@@ -107,6 +110,21 @@ pub fn residue_of_fraction(p: i64, n: i64, e: i64) -> FractionResidue
         return no_fraction(NO_RESIDUE);
     }
     quotient(n, residue::number(e), residue::number(p))
+}
+
+// The leading view: the words of the leading coefficient of a or b, whichever has the higher degree, a's where they are equal, as a part of that slot itself;
+// an empty part where any of 1 to 5 applies or both are zero. Writes nothing.
+pub fn leading_view<'a>(
+    p: i64,
+    n: i64,
+    e: [i64; 4],
+    t: &[i64],
+    a: &'a [i64],
+    b: &'a [i64],
+) -> &'a [i64]
+    ensures shown { λ r. ⌜ LeadingShown p n e (now (t .entry)) (now (a .entry)) (now (b .entry)) (now r) ⌝ }
+{
+    leading(p, n, e, t, a, b)
 }
 
 // Sum: a + b, which replaces a. Refuses 1 to 6. Writes a's slot, the whole of it after Done and nothing when refused.

@@ -1,4 +1,4 @@
-// Sum and difference: their tests, and the sum in a's own slot.
+// Sum and difference: their tests, of which the first are those of the leading view, and the sum in a's own slot.
 ghost use mathlib.Core.Path.{_≡_};
 ghost use mathlib.Core.Bool.{true, _&&_};
 ghost use Prim.Native.Nat.{_<_};
@@ -10,6 +10,7 @@ ghost use Rattle.kernel.specs.Promises.{SumGiven};
 ghost use Rattle.kernel.specs.Shape.{Known};
 ghost use Rattle.kernel.specs.Slots.{degreeCount};
 ghost use Rattle.kernel.specs.Sums.{sumNumber};
+ghost use Rattle.kernel.specs.Views.{viewNumber};
 use super::Answer;
 use super::Shape;
 use super::numbers::BAD_FORM;
@@ -56,9 +57,9 @@ pub fn room_ok(k: usize, a: &[i64], b: &[i64]) -> bool
     count_at(b, 0) <= k
 }
 
-// Number 1 to 6 or 0, of a tower and two slots over it, the answer in the first.
-pub fn sum_number(p: i64, n: i64, e: [i64; 4], t: &[i64], a: &[i64], b: &[i64]) -> usize
-    ensures { λ r. ⌜ r ≡ sumNumber p n e (now (t .entry)) (now (a .entry)) (now (b .entry)) ⌝ }
+// Number 1 to 5 or 0, of a tower and two slots over it.
+pub fn view_number(p: i64, n: i64, e: [i64; 4], t: &[i64], a: &[i64], b: &[i64]) -> usize
+    ensures { λ r. ⌜ r ≡ viewNumber p n e (now (t .entry)) (now (a .entry)) (now (b .entry)) ⌝ }
 {
     let number = tower_number(p, n, e, t);
     if 0 < number {
@@ -71,6 +72,18 @@ pub fn sum_number(p: i64, n: i64, e: [i64; 4], t: &[i64], a: &[i64], b: &[i64]) 
     if !forms_ok(s, residue::number(p), a, b) {
         return BAD_FORM;
     }
+    0
+}
+
+// Number 1 to 6 or 0, of a tower and two slots over it, the answer in the first.
+pub fn sum_number(p: i64, n: i64, e: [i64; 4], t: &[i64], a: &[i64], b: &[i64]) -> usize
+    ensures { λ r. ⌜ r ≡ sumNumber p n e (now (t .entry)) (now (a .entry)) (now (b .entry)) ⌝ }
+{
+    let number = view_number(p, n, e, t, a, b);
+    if 0 < number {
+        return number;
+    }
+    let s = shape_of(n, e);
     if !room_ok(coefficients(s.size, a.len()), a, b) {
         return SMALL_ANSWER;
     }

@@ -3,12 +3,11 @@
 -- row-number == the number that the words give is the coefficient of the row divided in place
 -- at-places, at-dot, at-room, at-number == where its words are, that its sums have room, and the number that the code makes
 use Prim.Native.Nat.{ℕ, zero, suc, _+_, _-_, _*_, _%_, _^_, _<_, _≤_}
-use native.Mathlib.Nat.{zero-add}
 use native.Mathlib.Omega.{arith}
 use mathlib.Core.Path.{_≡_, refl, sym, ap, ap₂, _∙_, subst}
 use mathlib.Core.List.{List}
 use lib.IntN.{ℤ}
-use lib.ListN.{length, set}
+use lib.ListN.{length}
 use Rattle.algebra.specs.Ring.{CRing}
 use Rattle.algebra.specs.Vec.{Vec, coef}
 use Rattle.algebra.specs.Windows.{first, span, sum, sum-zero, sum-suc, sum-cong, window, window-neg}
@@ -16,12 +15,9 @@ use Rattle.algebra.specs.Divided.{row, row-each}
 use Rattle.algebra.specs.Zmod.{Residue, toZ, zGroup, Zmod, toZ-⊕, toZ-⊗, toZ-own}
 use Rattle.residue.specs.Number.{Modulus, Below, sumOf, Room, Added}
 use Rattle.residue.specs.Word.{at}
-use Rattle.tower.specs.Levels.{degree}
-use Rattle.tower.specs.Writing.{size}
 use Rattle.arithmetic.specs.Places.{wide}
 use Rattle.arithmetic.specs.Walk.{total, total-zero, total-suc, dotAt, Readable, DotReady}
-use Rattle.products.specs.Product.{Two}
-use Rattle.products.specs.Lowest.{pairsNumber, LowestAtReady, lowestNumber}
+use Rattle.products.specs.Lowest.{DividedReady, dividedNumber}
 
 -- the residue of a sum is the sum of the residues
 toZ-total : (p : ℕ) (p-pos : 0 < p) (n : ℕ) (h : ℕ → ℕ) → toZ p p-pos (total n h) ≡ sum (Zmod p p-pos) n (λ u. toZ p p-pos (h u))
@@ -110,35 +106,23 @@ module _ (p : ℕ) (p-pos : 0 < p) (g : ℕ) (l : Vec (Residue p) g) (f : ℕ �
       (toZ-⊕ p p-pos n _ ∙ ap₂ (R ._⊕_) h dot-is ∙ sym (row-each R g l (wide g) (omega (arith, some)) f k few))
 
 -- what one coefficient asks for, in the code's numbers; e′ is the tower's list
-module _ {d z : List ℕ} {p : ℕ} {m : List ℕ} {e : List ℤ} {ea : ℕ} {o : Two} {w : List ℤ} {top k : ℕ} (h : LowestAtReady d z p m e ea o w top k)
-    {g : ℕ} (eg : g ≡ degree d 0) where
-  -- the code's degree
-  few : o .n * size d (o .i) + g < 2 ^ 32
-  few = omega (arith, h .few)
-
-  some : 0 < g
-  some = omega (arith, h .some)
-
+module _ {g p : ℕ} {e : List ℤ} {ea : ℕ} {w : List ℤ} {top k lo hi : ℕ} (h : DividedReady g p e ea w top k lo hi) where
   -- nothing wraps
   pub at-places : (k + 1 ≤ g + (g - 1)) × (ea + 1 + first (g - 1) k ≤ length e) × (top + g + first g k ≤ length w) × (g < 2 ^ 32)
   at-places =
-      let last = h .low (g - 1) (omega (arith, some)) .inside in
-      let room : top + wide g ≤ length w = subst (λ n. top + wide n ≤ length w) (sym eg) (h .room) in
-      let reached : k < wide g = subst (λ n. k < wide n) (sym eg) (h .reached) in
-      (omega (arith, some), omega (arith, some), omega (arith, some), omega (arith, few))
+      let last = h .low (g - 1) (omega (arith, h .some)) .inside in
+      (omega (arith, h .some, h .reached), omega (arith, h .reached), omega (arith, h .reached, h .inside), omega (arith, h .room .hi-room))
 
-  module _ {f q c lo hi : ℕ} {e′ : List ℤ} (ef : f ≡ ea + 1 + first (g - 1) k) (eq : q ≡ top + g + first g k) (ec : c ≡ span g (g - 1) k) (same : e ≡ e′)
-      (sum : Added (o .n * size d (o .i)) (pairsNumber d (set m 0 k) o w) 0 0 lo hi) where
+  module _ {f q c : ℕ} {e′ : List ℤ} (ef : f ≡ ea + 1 + first (g - 1) k) (eq : q ≡ top + g + first g k) (ec : c ≡ span g (g - 1) k) (same : e ≡ e′) where
     least : c ≤ g
-    least = omega (arith, some)
+    least = omega (arith, h .some)
 
     -- the dot product may be added
     pub at-dot : DotReady e′ f w q c 1 lo hi
     at-dot = subst (λ x. DotReady x f w q c 1 lo hi) same (record {
-      left = λ u s. subst (Readable e) (sym (left-at u)) (h .low (first (g - 1) k + u) (subst (λ n. first (g - 1) k + u < n) eg (places u s .0)));
-      right = λ u s.
-          subst (Readable w) (sym (right-at u)) (h .above (g + (first g k + u)) (places u s .1) (subst (λ n. g + (first g k + u) < wide n) eg (places u s .2)));
-      room = record { lo-room = omega (arith, sum .lo-most, few, least); hi-room = omega (arith, sum .hi-most, few, least) };
+      left = λ u s. subst (Readable e) (sym (left-at u)) (h .low (first (g - 1) k + u) (places u s .0));
+      right = λ u s. subst (Readable w) (sym (right-at u)) (h .above (g + (first g k + u)) (places u s .1) (places u s .2));
+      room = record { lo-room = omega (arith, h .room .lo-room, least); hi-room = omega (arith, h .room .hi-room, least) };
     })
       where
         left-at : (u : ℕ) → f + u * 1 ≡ ea + 1 + (first (g - 1) k + u)
@@ -148,29 +132,19 @@ module _ {d z : List ℕ} {p : ℕ} {m : List ℕ} {e : List ℤ} {ea : ℕ} {o 
         right-at u = ap (λ n. n + u * 1) eq ∙ omega arith
 
         places : (u : ℕ) → u < c → (first (g - 1) k + u < g) × (k < g + (first g k + u)) × (g + (first g k + u) < wide g)
-        places u s = both-places g k u some (subst (λ n. u < n) ec s)
+        places u s = both-places g k u (h .some) (subst (λ n. u < n) ec s)
 
     module _ {lo′ hi′ : ℕ} (dot : Added c (dotAt e′ w c 1 f q) lo hi lo′ hi′) where
       -- the sum may be reduced
       pub at-room : Modulus p × Room 1 lo′ hi′
       at-room = (
         h .modulus,
-        record { lo-room = omega (arith, sum .lo-most, dot .lo-most, few, least); hi-room = omega (arith, sum .hi-most, dot .hi-most, few, least) },
+        record { lo-room = omega (arith, h .room .lo-room, dot .lo-most, least); hi-room = omega (arith, h .room .hi-room, dot .hi-most, least) },
       )
 
       -- and this is the number
-      pub at-number : {r : ℕ} → Below p (sumOf lo′ hi′ % p) r → Below p (lowestNumber d p m e ea o w top k) r
-      at-number b = record { value = b .value ∙ ap (λ n. n % p) total-is; small = b .small }
+      pub at-number : {r : ℕ} → Below p (sumOf lo′ hi′ % p) r → Below p (dividedNumber g p e ea w top k (sumOf lo hi)) r
+      at-number b = record { value = b .value ∙ ap (λ n. n % p) (dot .value ∙ ap (λ n. sumOf lo hi + n) dot-is); small = b .small }
         where
-          dot-is : dotAt e′ w c 1 f q
-              ≡ dotAt e w (span (degree d 0) (degree d 0 - 1) k) 1 (ea + 1 + first (degree d 0 - 1) k) (top + degree d 0 + first (degree d 0) k)
-          dot-is =
-              ap (λ x. dotAt x w c 1 f q) (sym same)
-              ∙ ap (λ n. dotAt e w n 1 f q) ec
-              ∙ ap₂ (dotAt e w (span g (g - 1) k) 1) ef eq
-              ∙ ap (λ n. dotAt e w (span n (n - 1) k) 1 (ea + 1 + first (n - 1) k) (top + n + first n k)) eg
-
-          total-is : sumOf lo′ hi′
-              ≡ pairsNumber d (set m 0 k) o w
-              + dotAt e w (span (degree d 0) (degree d 0 - 1) k) 1 (ea + 1 + first (degree d 0 - 1) k) (top + degree d 0 + first (degree d 0) k)
-          total-is = dot .value ∙ ap₂ _+_ (sum .value ∙ zero-add (pairsNumber d (set m 0 k) o w)) dot-is
+          dot-is : dotAt e′ w c 1 f q ≡ dotAt e w (span g (g - 1) k) 1 (ea + 1 + first (g - 1) k) (top + g + first g k)
+          dot-is = ap (λ x. dotAt x w c 1 f q) (sym same) ∙ ap (λ n. dotAt e w n 1 f q) ec ∙ ap₂ (dotAt e w (span g (g - 1) k) 1) ef eq

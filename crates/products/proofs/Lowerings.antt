@@ -2,17 +2,17 @@
 --
 -- undivided, divided, outAt, Lowering  == the row, the same divided in place, what the loop leaves; the coefficients from k on are there
 -- lowest-some, lowest-few, lowest-room == the lowest degree, and the words from top on
--- lowering-start, -place, -ready, -old, -operands, -next, -end == how the loop starts, goes on and ends
+-- lowering-start, -ready, -summed, -writes, -next, -end == how the loop starts, goes on and ends
 -- level-one, lowest-leaves, lowest-done == what it leaves becomes the answer
 use Prim.Native.Nat.{ℕ, zero, suc, _+_, _-_, _*_, _^_, _<_, _≤_}
-use native.Mathlib.Nat.{mul-one, mul-le-mul-right, lt-irrefl}
+use native.Mathlib.Nat.{zero-add, mul-one, mul-le-mul-right, lt-irrefl}
 use native.Mathlib.Omega.{arith}
 use mathlib.Core.Path.{_≡_, refl, sym, ap, ap₂, _∙_, subst}
 use mathlib.Core.Bool.{Bool, true, false}
 use mathlib.Core.Logic.{_⊎_, inl, inr}
 use mathlib.Core.List.{List}
 use lib.IntN.{ℤ, pos}
-use lib.Dec.{T, ltb→lt}
+use lib.Dec.{T}
 use lib.ListN.{length, set}
 use lib.Seq.{getD-set-same, getD-set-other}
 use borrow.Author.Tests.{ltb-true, ltb-false, lt-ltb, le-ltb}
@@ -21,7 +21,7 @@ use Rattle.algebra.specs.Test.{le-or-lt}
 use Rattle.algebra.specs.Vec.{coef, coef-below, coef-zero}
 use Rattle.algebra.specs.Divided.{row, row-low}
 use Rattle.algebra.specs.Zmod.{Residue, toZ, Zmod}
-use Rattle.residue.specs.Number.{Operands, Below}
+use Rattle.residue.specs.Number.{sumOf, Added}
 use Rattle.residue.specs.Word.{num, at}
 use Rattle.tower.specs.Levels.{degree, El, group, Tower, ring}
 use Rattle.tower.specs.Writing.{size, size-zero, size-suc, towerSize, towerSize-suc, write, write-suc}
@@ -34,7 +34,8 @@ use Rattle.arithmetic.specs.Sum.{gained, gained-coef, gainedNumber}
 use Rattle.arithmetic.specs.Walk.{pick, placeOf}
 use Rattle.products.specs.Value.{part, value-zero, value-suc, pairs, part-stands}
 use Rattle.products.specs.Product.{Inside, Two, Given, Pairs, TowerStands, Worked, work, work-suc, ProductReady, ProductDone}
-use Rattle.products.specs.Lowest.{oldNumber, OldReady, pairsNumber, LowestAtReady, lowestNumber, LowestDone, LeaveReady, Left}
+use Rattle.products.specs.Lowest.{oldNumber, OldReady, pairsNumber, PairsAtReady, SummedAt, DividedReady, dividedNumber}
+use Rattle.products.specs.Lowest.{WriteReady, writtenNumber, LowestDone, LeaveReady, Left}
 use Rattle.arithmetic.proofs.Gains.{gained-number}
 use Rattle.products.proofs.Towers.{tower-low}
 use Rattle.products.proofs.Frames.{inside-kept, operating-kept, tower-kept, given-kept}
@@ -165,113 +166,113 @@ module _ {d z : List ℕ} {p : ℕ} {m : List ℕ} {e : List ℤ} {e-in : Bool} 
         let place : placeOf (set m 0 n) (suc l) ≡ placeOf m (suc l) = getD-set-other m 0 (suc l) n 0 (λ r. lt-irrefl 0 (omega arith)) in
         omega (arith, h .reached (suc l) (omega arith) q)
 
-    -- what it asks for
-    pub lowering-ready : LowestAtReady d z p m (pick e-in w e) ea o w top n
-    lowering-ready =
+    -- what its pairs ask for
+    pub lowering-ready : {g : ℕ} → g ≡ degree d 0 → PairsAtReady g d z m o w n
+    lowering-ready eg =
         let now = now-given (h .p-pos) (h .u) (h .v) (h .old) (h .given) in
         record {
-          modulus = h .operating .modulus;
+          lowest = eg;
+          places = h .places;
           pairs =
               operands-ready p (h .p-pos) d o (h .u) (h .v) w (now .lefts) (now .rights) z (set m 0 n) top
               (operating-kept (lo .kept .long) (omega arith) (h .operating)) reached-at;
-          few = lowest-few;
-          some = lowest-some;
-          reached = omega (arith, lo .few);
-          low = λ l q. readable p d _ (pick e-in w e) (ea + 1 + l) (low-stands (h .p-pos) (h .t) (h .tower) l q) (h .operating .modulus) (low-inside l q);
-          above = λ l q s.
-              readable p d _ w (top + l) (lo .so-far (h .p-pos) (h .t) (h .u) (h .v) (h .old) (h .tower) (h .given) l (omega arith) s) (h .operating .modulus)
-              (omega (arith, lowest-room, lo .kept .long));
-          room = omega (arith, lowest-room, lo .kept .long);
         }
-      where
-        now-inside : Inside e-in (pick e-in w e) ea (towerSize d 1) top
-        now-inside = inside-kept e-in w₀ w e (lo .kept .long) (omega arith) (h .e-inside)
 
-        low-inside : (l : ℕ) → l < degree d 0 → ea + 1 + l < length (pick e-in w e)
-        low-inside l q =
-            omega (
-              arith,
-              now-inside .inside,
-              towerSize-suc d 0,
-              size-suc d 0,
-              ones d (degree d 0),
-            )
-
-    -- the places of its old content, and of its own
-    pub lowering-place : (c + 1 + n < length w) × (top + n < length w)
-    lowering-place = (
-      omega (arith, lowest-room, lo .few, lo .kept .long, h .c-below, size-suc d 0),
-      omega (arith, lowest-room, lo .few, lo .kept .long),
-    )
-
-    -- the old content at the place of the next one
-    pub lowering-old : {g : ℕ} {kp : Bool} → g ≡ degree d 0 → kp ≡ keepsAt keep n g → OldReady p kp w (c + 1 + n)
-    lowering-old eg ek f =
+    -- the pairs stand where they stood, so their sum is the same
+    pub lowering-summed : {l t : ℕ} → SummedAt d m o w n l t → SummedAt d m o w₀ n l t
+    lowering-summed {l} {t} sum =
         let now = now-given (h .p-pos) (h .u) (h .v) (h .old) (h .given) in
-        let stands = part-kept p (h .p-pos) d (h .old) w c n keep (now .kept) (ap (keepsAt keep n) (sym eg) ∙ sym ek ∙ f) in (
-          readable p d _ w (c + 1 + n) stands (h .operating .modulus) (lowering-place .0),
-          small p d _ w (c + 1 + n) stands,
-        )
+        subst (λ v. Added (o .n * size d (o .i)) v 0 0 l t)
+        (pairs-number p (h .p-pos) d o (h .u) (h .v) w (now .lefts) (now .rights) (set m 0 n)
+        ∙ sym (pairs-number p (h .p-pos) d o (h .u) (h .v) w₀ (h .given .lefts) (h .given .rights) (set m 0 n)))
+        sum
 
-    -- the two numbers that make it
-    module _ {g a b : ℕ} {kp : Bool} (eg : g ≡ degree d 0) (ek : kp ≡ keepsAt keep n g) (ea′ : a ≡ oldNumber kp (at w (c + 1 + n)))
-        (eb : Below p (lowestNumber d p m (pick e-in w e) ea o w top n) b) where
-      -- they are the part of the old content, and the coefficient of the divided row
-      old-is : (p-pos : 0 < p) (u v : ℕ → El p d (o .i)) (old : El p d 1) → Given p p-pos d o u v 1 old keep w₀ c → a ≡ part p p-pos d 0 old n .0
-      old-is p-pos u v old g₀ =
-          let now = now-given p-pos u v old g₀ in
-          let same : keepsAt keep n (degree d 0) ≡ kp = ap (keepsAt keep n) (sym eg) ∙ sym ek in
-          ea′
-          ∙ old-number p p-pos d kp (part p p-pos d 0 old n) w (c + 1 + n) (λ f. part-kept p p-pos d old w c n keep (now .kept) (same ∙ f))
-          (λ f. part-fresh p p-pos d old w c n keep (now .fresh) (same ∙ f))
+    -- the two numbers that make it are the part of the old content, and the coefficient of the divided row
+    old-is : (p-pos : 0 < p) (u v : ℕ → El p d (o .i)) (old : El p d 1) → Given p p-pos d o u v 1 old keep w₀ c
+        → oldNumber (keepsAt keep n (degree d 0)) (at w (c + 1 + n)) ≡ part p p-pos d 0 old n .0
+    old-is p-pos u v old g₀ =
+        let now = now-given p-pos u v old g₀ in
+        old-number p p-pos d (keepsAt keep n (degree d 0)) (part p p-pos d 0 old n) w (c + 1 + n) (part-kept p p-pos d old w c n keep (now .kept))
+        (part-fresh p p-pos d old w c n keep (now .fresh))
 
-      row-is : (p-pos : 0 < p) (t : Tower p d 1) (u v : ℕ → El p d (o .i)) (old : El p d 1) → TowerStands p p-pos d 1 t (pick e-in w₀ e) ea
-          → Given p p-pos d o u v 1 old keep w₀ c → b ≡ divided p p-pos d t o u v m n .0
-      row-is p-pos t u v old st g₀ =
-          let now = now-given p-pos u v old g₀ in
-          eb .value
-          ∙ row-number p p-pos (degree d 0) (t .1) (undivided p p-pos d t o u v m) lowest-some (pick e-in w e) w ea top n (omega (arith, lo .few))
-          (λ l q. ap num (word-of p d _ (pick e-in w e) (ea + 1 + l) (low-stands p-pos t st l q)))
-          (λ l q s r.
-          ap num (word-of p d _ w (top + l) (lo .so-far p-pos t u v old st g₀ l (omega arith) r))
-          ∙ ap (λ (x : Residue p). x .0) (out-high p p-pos d t o u v m neg old l s))
-          (pairsNumber d (set m 0 n) o w)
-          (ap (toZ p p-pos) (pairs-number p p-pos d o u v w (now .lefts) (now .rights) (set m 0 n)) ∙ sym (value-zero p p-pos d (t .0) _ (set m 0 n)))
+    row-is : (p-pos : 0 < p) (t : Tower p d 1) (u v : ℕ → El p d (o .i)) (old : El p d 1) → TowerStands p p-pos d 1 t (pick e-in w₀ e) ea
+        → Given p p-pos d o u v 1 old keep w₀ c
+        → dividedNumber (degree d 0) p (pick e-in w e) ea w top n (pairsNumber d (set m 0 n) o w₀) ≡ divided p p-pos d t o u v m n .0
+    row-is p-pos t u v old st g₀ =
+        row-number p p-pos (degree d 0) (t .1) (undivided p p-pos d t o u v m) lowest-some (pick e-in w e) w ea top n (omega (arith, lo .few))
+        (λ l q. ap num (word-of p d _ (pick e-in w e) (ea + 1 + l) (low-stands p-pos t st l q)))
+        (λ l q s r.
+        ap num (word-of p d _ w (top + l) (lo .so-far p-pos t u v old st g₀ l (omega arith) r))
+        ∙ ap (λ (x : Residue p). x .0) (out-high p p-pos d t o u v m neg old l s))
+        (pairsNumber d (set m 0 n) o w₀)
+        (ap (toZ p p-pos) (pairs-number p p-pos d o u v w₀ (g₀ .lefts) (g₀ .rights) (set m 0 n)) ∙ sym (value-zero p p-pos d (t .0) _ (set m 0 n)))
 
-      -- the last step takes them
-      pub lowering-operands : Operands p a b
-      lowering-operands =
-          let l : part p (h .p-pos) d 0 (h .old) n .0 < p = ltb→lt _ p (part p (h .p-pos) d 0 (h .old) n .1) in
-          record { narrow = h .operating .modulus .narrow; left = omega (arith, old-is (h .p-pos) (h .u) (h .v) (h .old) (h .given)); right = eb .small }
+    -- from the sum of its pairs, as they stood before
+    module _ {g l t : ℕ} (eg : g ≡ degree d 0) (sum : SummedAt d m o w₀ n l t) where
+      -- what the coefficient asks for
+      pub lowering-writes : WriteReady g p (pick e-in w e) ea keep w c top n l t
+      lowering-writes =
+          subst (λ i. WriteReady i p (pick e-in w e) ea keep w c top n l t) (sym eg) (record { divided = dividing; old = old; c-inside = c-inside })
+        where
+          now-inside : Inside e-in (pick e-in w e) ea (towerSize d 1) top
+          now-inside = inside-kept e-in w₀ w e (lo .kept .long) (omega arith) (h .e-inside)
 
-      -- and writes the coefficient
-      pub lowering-next : {ls : Bool} {r : ℕ} {w′ : List ℤ} → ls ≡ losesAt neg n g → r ≡ gainedNumber ls p a b → w′ ≡ set w (top + n) (pos r)
+          low-inside : (l : ℕ) → l < degree d 0 → ea + 1 + l < length (pick e-in w e)
+          low-inside l q = omega (arith, now-inside .inside, towerSize-suc d 0, size-suc d 0, ones d (degree d 0))
+
+          dividing : DividedReady (degree d 0) p (pick e-in w e) ea w top n l t
+          dividing = record {
+            modulus = h .operating .modulus;
+            some = lowest-some;
+            reached = omega (arith, lo .few);
+            low = λ l q. readable p d _ (pick e-in w e) (ea + 1 + l) (low-stands (h .p-pos) (h .t) (h .tower) l q) (h .operating .modulus) (low-inside l q);
+            above = λ l q s.
+                readable p d _ w (top + l) (lo .so-far (h .p-pos) (h .t) (h .u) (h .v) (h .old) (h .tower) (h .given) l (omega arith) s) (h .operating .modulus)
+                (omega (arith, lowest-room, lo .kept .long));
+            inside = omega (arith, lowest-room, lo .kept .long);
+            room = record { lo-room = omega (arith, sum .lo-most, lowest-few); hi-room = omega (arith, sum .hi-most, lowest-few) };
+          }
+
+          c-inside : c + 1 + n < length w
+          c-inside = omega (arith, lowest-room, lo .few, lo .kept .long, h .c-below, size-suc d 0)
+
+          old : OldReady p (keepsAt keep n (degree d 0)) w (c + 1 + n)
+          old f =
+              let now = now-given (h .p-pos) (h .u) (h .v) (h .old) (h .given) in
+              let stands = part-kept p (h .p-pos) d (h .old) w c n keep (now .kept) f in
+              (readable p d _ w (c + 1 + n) stands (h .operating .modulus) c-inside, small p d _ w (c + 1 + n) stands)
+
+      -- and the coefficient that is written
+      pub lowering-next : {w′ : List ℤ} → w′ ≡ set w (top + n) (pos (writtenNumber g p (pick e-in w e) ea neg keep w c top n (sumOf l t)))
           → Lowering d p m e e-in ea o neg keep w₀ c top n w′
-      lowering-next {ls} {r} {w′} el er ew =
+      lowering-next ew =
           subst (Lowering d p m e e-in ea o neg keep w₀ c top n) (sym ew) (record { kept = kept; few = omega (arith, lo .few); so-far = so-far })
         where
+          r : ℕ
+          r = writtenNumber g p (pick e-in w e) ea neg keep w c top n (sumOf l t)
+
           kept : Kept top (wide (degree d 0)) w₀ (set w (top + n) (pos r))
           kept = kept-trans (lo .kept) (kept-wide (omega arith) (omega (arith, lo .few)) (kept-set w (top + n) (pos r)))
 
           so-far : (p-pos : 0 < p) (t : Tower p d 1) (u v : ℕ → El p d (o .i)) (old : El p d 1) → TowerStands p p-pos d 1 t (pick e-in w₀ e) ea
-              → Given p p-pos d o u v 1 old keep w₀ c → (l : ℕ) → n ≤ l → l < wide (degree d 0)
-              → Stands p d 0 (outAt p p-pos d t o u v m neg old l) (set w (top + n) (pos r)) (top + l)
-          so-far p-pos t u v old st g₀ l q s = which (le-or-lt (suc n) l)
+              → Given p p-pos d o u v 1 old keep w₀ c → (i : ℕ) → n ≤ i → i < wide (degree d 0)
+              → Stands p d 0 (outAt p p-pos d t o u v m neg old i) (set w (top + n) (pos r)) (top + i)
+          so-far p-pos t u v old st g₀ i q s = which (le-or-lt (suc n) i)
             where
               here : r ≡ outAt p p-pos d t o u v m neg old n .0
               here =
-                  er
-                  ∙ ap (λ (f : Bool). gainedNumber f p a b) (el ∙ ap (losesAt neg n) eg)
+                  ap₂ (λ i v. writtenNumber i p (pick e-in w e) ea neg keep w c top n v) eg (sum .value ∙ zero-add (pairsNumber d (set m 0 n) o w₀))
                   ∙ ap₂ (gainedNumber (losesAt neg n (degree d 0)) p) (old-is p-pos u v old g₀) (row-is p-pos t u v old st g₀)
                   ∙ gained-number p p-pos (losesAt neg n (degree d 0)) (part p p-pos d 0 old n) (divided p p-pos d t o u v m n)
 
-              which : (suc n ≤ l) ⊎ (l < suc n) → Stands p d 0 (outAt p p-pos d t o u v m neg old l) (set w (top + n) (pos r)) (top + l)
+              which : (suc n ≤ i) ⊎ (i < suc n) → Stands p d 0 (outAt p p-pos d t o u v m neg old i) (set w (top + n) (pos r)) (top + i)
               which (inl f) =
-                  kept-seg (top + l) (size d 0) (inr (omega arith)) (kept-set w (top + n) (pos r)) ∙ lo .so-far p-pos t u v old st g₀ l (omega arith) s
+                  kept-seg (top + i) (size d 0) (inr (omega arith)) (kept-set w (top + n) (pos r)) ∙ lo .so-far p-pos t u v old st g₀ i (omega arith) s
               which (inr f) =
-                  let same : n ≡ l = omega arith in
+                  let same : n ≡ i = omega arith in
+                  let room : top + n < length w = omega (arith, lowest-room, lo .few, lo .kept .long) in
                   subst (λ i. Stands p d 0 (outAt p p-pos d t o u v m neg old i) (set w (top + n) (pos r)) (top + i)) same
-                  (residue-stands p d _ w (top + n) r (lowering-place .1) here)
+                  (residue-stands p d _ w (top + n) r room here)
 
 -- ---- the answer
 -- below level 2, what is not level 0 is level 1

@@ -1,8 +1,9 @@
--- Laws of level 0 of a product, and of how an answer is left.
+-- Laws of level 0 of a product, of the word of one coefficient of level 1, and of how an answer is left.
 --
 -- left-here                 == g elements from top on, copied behind c and given their degree word, are the slot at c
 -- small, readable           == a word that holds a residue;  residue-stands == one that was written;  old-number == old content, which is 0 where it is not kept
--- single-operands, single-written == the numbers of the code's last step, and the word
+-- gain-operands             == the numbers of the code's last step;  single-written == the word at level 0
+-- write-old, write-written  == the old content and the word of a coefficient of level 1
 -- single-ready, single-done == what the sum of products of residues asks for is there, and it ends the product
 use Prim.Native.Nat.{ℕ, _+_, _-_, _*_, _%_, _<_}
 use native.Mathlib.Nat.{mod-eq-of-lt, zero-add}
@@ -23,12 +24,14 @@ use Rattle.tower.specs.Form.{seg}
 use Rattle.tower.specs.Lists.{seg-long}
 use Rattle.tower.specs.Store.{Kept, Put, kept-trans, kept-wide, kept-set, put-kept, put-seg, put-set}
 use Rattle.tower.specs.Stands.{Stands, SlotStands}
+use Rattle.arithmetic.specs.Places.{keepsAt, losesAt}
 use Rattle.arithmetic.specs.Rows.{RunStands, Settled, word-of, narrow-by}
 use Rattle.arithmetic.specs.Sum.{gained, gainedNumber}
 use Rattle.arithmetic.specs.Walk.{pick, Readable}
 use Rattle.products.specs.Value.{value-zero, pairs}
 use Rattle.products.specs.Product.{Two, Given, Pairs, TowerStands, Worked, work, ProductReady, ProductDone}
-use Rattle.products.specs.Lowest.{oldNumber, OldReady, SingleReady, singleNumber, pairsNumber, LeaveReady, Left}
+use Rattle.products.specs.Lowest.{oldNumber, OldReady, SingleReady, singleNumber, pairsNumber, dividedNumber}
+use Rattle.products.specs.Lowest.{WriteReady, writtenNumber, LeaveReady, Left}
 use Rattle.arithmetic.proofs.Gains.{gained-number}
 use Rattle.products.proofs.Pairings.{pairs-number, operands-ready}
 
@@ -75,22 +78,23 @@ pub old-number : (p : ℕ) (p-pos : 0 < p) (d : List ℕ) (keep : Bool) (u : El 
 old-number p p-pos d true u w b kept fresh = ap num (word-of p d u w b (kept refl))
 old-number p p-pos d false u w b kept fresh = sym (zero-number p p-pos d u (fresh refl))
 
--- ---- level 0
+-- ---- the last step
 -- old content is below p
 old-small : (p : ℕ) (keep : Bool) (w : List ℤ) (c : ℕ) → 0 < p → OldReady p keep w c → oldNumber keep (at w c) < p
 old-small p true w c h f = f refl .1
 old-small p false w c h f = h
 
+-- what the last step takes
+pub gain-operands : {p : ℕ} {keep : Bool} {w : List ℤ} {c u n v : ℕ} → Modulus p → OldReady p keep w c → u ≡ oldNumber keep (at w c) → Below p n v
+    → Operands p u v
+gain-operands {p} {keep} {w} {c} h old eu b = record {
+  narrow = h .narrow;
+  left = omega (arith, eu, old-small p keep w c (h .positive) old);
+  right = b .small;
+}
+
 module _ {d z : List ℕ} {p : ℕ} {m : List ℕ} {o : Two} {keep : Bool} {w : List ℤ} {c u : ℕ} (h : SingleReady d z p m o keep w c)
     (eu : u ≡ oldNumber keep (at w c)) where
-  -- what the last step takes
-  pub single-operands : {n v : ℕ} → Below p n v → Operands p u v
-  single-operands b = record {
-    narrow = h .modulus .narrow;
-    left = omega (arith, eu, old-small p keep w c (h .modulus .positive) (h .old));
-    right = b .small;
-  }
-
   -- the word that is written
   pub single-written : (neg : Bool) {lo hi v r : ℕ} {w′ : List ℤ} → Added (o .n * size d (o .i)) (pairsNumber d m o w) 0 0 lo hi → Below p (sumOf lo hi % p) v
       → r ≡ gainedNumber neg p u v → w′ ≡ set w c (pos r) → w′ ≡ set w c (pos (singleNumber d p m o neg keep w c))
@@ -98,6 +102,25 @@ module _ {d z : List ℕ} {p : ℕ} {m : List ℕ} {o : Two} {keep : Bool} {w : 
       ew
       ∙ ap (λ n. set w c (pos n)) (er ∙ ap₂ (gainedNumber neg p) eu (b .value ∙ ap (λ n. n % p) (sum .value ∙ zero-add (pairsNumber d m o w))))
 
+-- ---- one coefficient of level 1
+module _ {g p : ℕ} {e : List ℤ} {ea : ℕ} {keep : Bool} {w : List ℤ} {c top k lo hi : ℕ} (h : WriteReady g p e ea keep w c top k lo hi) {kp : Bool}
+    (ek : kp ≡ keepsAt keep k g) where
+  -- the old content at its place
+  pub write-old : OldReady p kp w (c + 1 + k)
+  write-old = subst (λ b. OldReady p b w (c + 1 + k)) (sym ek) (h .old)
+
+  -- the word that is written
+  pub write-written : (neg : Bool) {ls : Bool} {u v r : ℕ} {w′ : List ℤ} → u ≡ oldNumber kp (at w (c + 1 + k))
+      → Below p (dividedNumber g p e ea w top k (sumOf lo hi)) v
+      → ls ≡ losesAt neg k g → r ≡ gainedNumber ls p u v → w′ ≡ set w (top + k) (pos r)
+      → w′ ≡ set w (top + k) (pos (writtenNumber g p e ea neg keep w c top k (sumOf lo hi)))
+  write-written neg {ls} {u} {v} eu b el er ew =
+      ew
+      ∙ ap (λ n. set w (top + k) (pos n))
+      (er ∙ ap (λ (f : Bool). gainedNumber f p u v) el
+      ∙ ap₂ (gainedNumber (losesAt neg k g) p) (eu ∙ ap (λ (f : Bool). oldNumber f (at w (c + 1 + k))) ek) (b .value))
+
+-- ---- level 0
 module _ {j : ℕ} {d z : List ℕ} {p : ℕ} {m : List ℕ} {e : List ℤ} {e-in : Bool} {ea : ℕ} {o : Two} {keep : Bool} {w : List ℤ} {c top : ℕ} (level : j ≡ 0)
     (h : ProductReady j d z p m e e-in ea o keep w c top) where
   -- the answer's word

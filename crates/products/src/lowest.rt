@@ -1,14 +1,18 @@
 // The two lowest levels of a product, and how an answer is left: a sum of products of residues; at level 1 all coefficients from the top down, each
-// the residue of its own sum and of what the quotient's coefficients above it take away.
+// the residue of its own sum and of what the quotient's coefficients above it take away. Elements of level 1 with two coefficients have three sums,
+// which one walk over the pairs makes.
 ghost use mathlib.Core.Path.{_≡_};
-ghost use Prim.Native.Nat.{_<_};
+ghost use Prim.Native.Nat.{_+_, _<_};
 ghost use lib.IntN.{pos};
 ghost use lib.ListN.{set};
-ghost use Rattle.residue.specs.Number.{Below};
+ghost use Rattle.residue.specs.Number.{sumOf, Below};
 ghost use Rattle.residue.specs.Word.{at};
 ghost use Rattle.products.specs.Product.{two, ProductReady, ProductDone};
 ghost use Rattle.arithmetic.specs.Walk.{pick};
-ghost use Rattle.products.specs.Lowest.{oldNumber, OldReady, SingleReady, singleNumber, LowestAtReady, lowestNumber, LowestDone, LeaveReady, Left};
+ghost use Rattle.products.specs.Lowest.{oldNumber, OldReady, SingleReady, singleNumber, PairsAtReady, SummedAt, DividedReady, dividedNumber};
+ghost use Rattle.products.specs.Lowest.{WriteReady, writtenNumber, LowestDone, LeaveReady, Left};
+use arithmetic::lines::line_pairs;
+use arithmetic::lines::three_pairs;
 use arithmetic::places::first_of;
 use arithmetic::places::keeps;
 use arithmetic::places::loses;
@@ -19,6 +23,7 @@ use arithmetic::rows::settle;
 use arithmetic::sum::gain;
 use arithmetic::walk::dot;
 use arithmetic::walk::sum_pairs;
+use residue::Accumulator;
 use tower::sizes::degree_at;
 use tower::store::copy;
 
@@ -62,17 +67,14 @@ pub fn single(
     residue::put(w, c, gain(neg, u, v, p));
 }
 
-// The k-th coefficient at level 1: the sum of its pairs, and the tower's coefficients times the quotient's above it, which stand negated.
-pub fn lowest_at(
+// What the pairs come to at the place k of level 1, and at the places m above.
+pub fn pairs_at(
     k: usize,
+    g: usize,
     i: usize,
     d: [usize; 4],
     z: [usize; 5],
-    p: u64,
     m: [usize; 4],
-    e: &[i64],
-    e_in: bool,
-    ea: usize,
     x: &[i64],
     x_in: bool,
     a: usize,
@@ -81,14 +83,32 @@ pub fn lowest_at(
     b: usize,
     n: usize,
     w: &[i64],
-    top: usize,
-) -> u64
-    requires { ⌜ LowestAtReady d z p m (pick «e_in» (now w) (now e)) ea (two i (now x) «x_in» a (now y) «y_in» b n) (now w) top k ⌝ }
-    ensures { λ r.
-        ⌜ Below p (lowestNumber d p m (pick «e_in» (now (w .entry)) (now (e .entry))) ea (two i (now (x .entry)) «x_in» a (now (y .entry)) «y_in» b n) (now (w .entry)) top k) r ⌝ }
+) -> Accumulator
+    requires { ⌜ PairsAtReady g d z m (two i (now x) «x_in» a (now y) «y_in» b n) (now w) k ⌝ }
+    ensures { λ r. ⌜ SummedAt d m (two i (now (x .entry)) «x_in» a (now (y .entry)) «y_in» b n) (now (w .entry)) k (r .lo) (r .hi) ⌝ }
 {
-    let g = degree_at(d, 0);
-    let s = sum_pairs(i, d, z, with_place(m, 0, k), w, x, x_in, a, y, y_in, b, n);
+    if i == 1 {
+        return line_pairs(g, k, w, x, x_in, a, y, y_in, b, n);
+    }
+    sum_pairs(i, d, z, with_place(m, 0, k), w, x, x_in, a, y, y_in, b, n)
+}
+
+// The residue of a sum and of what the quotient's coefficients above the k-th, which stand negated, take away.
+pub fn divided_at(
+    k: usize,
+    g: usize,
+    p: u64,
+    e: &[i64],
+    e_in: bool,
+    ea: usize,
+    w: &[i64],
+    top: usize,
+    s: Accumulator,
+) -> u64
+    requires { ⌜ DividedReady g p (pick «e_in» (now w) (now e)) ea (now w) top k (s .lo) (s .hi) ⌝ }
+    ensures { λ r.
+        ⌜ Below p (dividedNumber g p (pick «e_in» (now (w .entry)) (now (e .entry))) ea (now (w .entry)) top k (sumOf (s .lo) (s .hi))) r ⌝ }
+{
     let c = span_of(g, g - 1, k);
     let f = ea + 1 + first_of(g - 1, k);
     let q = top + g + first_of(g, k);
@@ -96,6 +116,31 @@ pub fn lowest_at(
         return residue::reduce(dot(w, f, w, q, c, 1, s), p);
     }
     residue::reduce(dot(e, f, w, q, c, 1, s), p)
+}
+
+// Writes the k-th coefficient from the sum of its pairs: below g what the element at c comes to there, above that the negated quotient's.
+pub fn write_at(
+    k: usize,
+    g: usize,
+    p: u64,
+    e: &[i64],
+    e_in: bool,
+    ea: usize,
+    neg: bool,
+    keep: bool,
+    w: &mut [i64],
+    c: usize,
+    top: usize,
+    s: Accumulator,
+)
+    requires { ⌜ WriteReady g p (pick «e_in» (now w) (now e)) ea keep (now w) c top k (s .lo) (s .hi) ⌝ }
+    ensures { λ _.
+        ⌜ now (w .exit) ≡ set (now (w .entry)) (top + k)
+        (pos (writtenNumber g p (pick «e_in» (now (w .entry)) (now (e .entry))) ea neg keep (now (w .entry)) c top k (sumOf (s .lo) (s .hi)))) ⌝ }
+{
+    let v = divided_at(k, g, p, e, e_in, ea, w, top, s);
+    let u = old_at(keeps(keep, k, g), p, w, c + 1 + k);
+    residue::put(w, top + k, gain(loses(neg, k, g), u, v, p));
 }
 
 // Level 1: all coefficients, from top on; below g what the element at c comes to, above that the negated quotient.
@@ -126,31 +171,23 @@ pub fn lowest(
         ⌜ LowestDone d p m (now (e .entry)) «e_in» ea (two i (now (x .entry)) «x_in» a (now (y .entry)) «y_in» b n) neg keep (now (w .entry)) (now (w .exit)) c top ⌝ }
 {
     let g = degree_at(d, 0);
+    if i == 1 {
+        if g == 2 {
+            let t = three_pairs(w, x, x_in, a, y, y_in, b, n);
+            let high = t.high;
+            let middle = t.middle;
+            let low = t.low;
+            write_at(2, g, p, e, e_in, ea, neg, keep, w, c, top, high);
+            write_at(1, g, p, e, e_in, ea, neg, keep, w, c, top, middle);
+            write_at(0, g, p, e, e_in, ea, neg, keep, w, c, top, low);
+            return;
+        }
+    }
     let mut k = wide_of(g);
     while 0 < k {
         k -= 1;
-        let v = lowest_at(
-            k,
-            i,
-            d,
-            z,
-            p,
-            m,
-            e,
-            e_in,
-            ea,
-            x,
-            x_in,
-            a,
-            y,
-            y_in,
-            b,
-            n,
-            w,
-            top,
-        );
-        let u = old_at(keeps(keep, k, g), p, w, c + 1 + k);
-        residue::put(w, top + k, gain(loses(neg, k, g), u, v, p));
+        let s = pairs_at(k, g, i, d, z, m, x, x_in, a, y, y_in, b, n, w);
+        write_at(k, g, p, e, e_in, ea, neg, keep, w, c, top, s);
     }
 }
 

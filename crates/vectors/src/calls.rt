@@ -184,6 +184,52 @@ fn slot(numbers: &[i64], line: u64, out: &mut Output, held: usize) -> usize {
     put(out, slot_told, b"\n")
 }
 
+// The leading view has no answer; what it shows goes first, as a list.
+fn show<'a>(
+    p: i64,
+    n: i64,
+    degrees: [i64; 4],
+    tower: &[i64],
+    a: &'a [i64],
+    b: &'a [i64],
+    out: &mut Output,
+    held: usize,
+) -> usize {
+    let shown = kernel::leading_view(p, n, degrees, tower, a, b);
+    let named = put(out, held, b"view");
+    let shown_told = put_words(out, named, shown);
+    let tower_told = put_words(out, shown_told, tower);
+    let a_told = put_words(out, tower_told, a);
+    let b_told = put_words(out, a_told, b);
+    put(out, b_told, b"\n")
+}
+
+// Leading view: p N d1 d2 d3 d4, the tower's words, the words of a, the words of b
+fn view(numbers: &[i64], line: u64, out: &mut Output, held: usize) -> usize {
+    if numbers.len() < 7 {
+        return bad_line(line, out, held);
+    }
+    let p = word_at(numbers, 0);
+    let n = word_at(numbers, 1);
+    let degrees = degrees_at(numbers, 2);
+    let tower = list_at(numbers, 6);
+    let a = list_at(numbers, tower.end);
+    let b = list_at(numbers, a.end);
+    if !last(b, numbers) {
+        return bad_line(line, out, held);
+    }
+    show(
+        p,
+        n,
+        degrees,
+        words(numbers, tower),
+        words(numbers, a),
+        words(numbers, b),
+        out,
+        held,
+    )
+}
+
 // The words of a list at the front of a store of its own.
 pub fn fill(store: &mut [i64], words: &[i64])
     requires { ⌜ length (now words) ≤ length (now store) ⌝ }
@@ -308,6 +354,7 @@ fn make(call: Call, numbers: &[i64], line: u64, out: &mut Output, held: usize) -
         Call::Sizes => sizes(numbers, line, out, held),
         Call::Tower => tower(numbers, line, out, held),
         Call::Slot => slot(numbers, line, out, held),
+        Call::View => view(numbers, line, out, held),
         Call::Sum => gain(false, numbers, line, out, held),
         Call::Difference => gain(true, numbers, line, out, held),
         Call::Product => product(numbers, line, out, held),

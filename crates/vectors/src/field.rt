@@ -12,6 +12,7 @@ pub enum Call {
     Sizes,
     Tower,
     Slot,
+    View,
     Sum,
     Difference,
     Product,
@@ -61,6 +62,9 @@ fn call_named(name: &[u8]) -> Call {
     }
     if same(name, b"slot") {
         return Call::Slot;
+    }
+    if same(name, b"view") {
+        return Call::View;
     }
     if same(name, b"sum") {
         return Call::Sum;

@@ -4,7 +4,8 @@
 // A line's fields are parted by single tabs: the call's name, then numbers of the signed 64 bits,
 // where a list is its count and its words. An answer's line is the name, `done`, `factor` and its
 // level or `refused` and its number, then what else the call gives, and then every lent list as it
-// is afterwards. A line that asks for no call prints `bad line` and its number from 1.
+// is afterwards. The leading view has no answer, and what it shows is a list. A line that asks for
+// no call prints `bad line` and its number from 1.
 mod calls;
 mod field;
 mod output;

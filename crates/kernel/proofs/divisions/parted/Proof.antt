@@ -1,7 +1,7 @@
 use mathlib.Core.Path.{refl, sym}
 use mir.Val.{toZ, ofZ}
 use mir.Syntax.{w64}
-use Rattle.kernel.proofs.Summing.{shape-some}
+use Rattle.kernel.proofs.Viewing.{shape-some}
 use Rattle.kernel.proofs.Dividing.{division-shape, some-a, some-q, store-serves, word-serves, clear-fits, work-cleared, work-untouched, divide-ready}
 use Rattle.kernel.proofs.Dividing.{division-refused, parted-done, division-plain}
 use borrow.Author.Needs.{needs}

@@ -2,7 +2,7 @@ use mathlib.Core.Path.{sym, _∙_}
 use native.Mathlib.Omega.{arith}
 use mir.Val.{toZ, ofZ}
 use mir.Syntax.{w64}
-use Rattle.kernel.proofs.Summing.{shape-some}
+use Rattle.kernel.proofs.Viewing.{shape-some}
 use Rattle.kernel.proofs.Slotting.{work-none, cleared-none, store-fits, clear-room, store-cleared}
 use Rattle.kernel.proofs.Multiplying.{product-plain, product-refused, product-done, product-shape, product-tested, product-some, multiply-ready, multiply-whole}
 use borrow.Author.Needs.{needs}

@@ -7,7 +7,7 @@ use mir.Syntax.{w64}
 use Rattle.kernel.specs.Slots.{roomNeeded, slotsNumber}
 use Rattle.kernel.proofs.Told.{of-words}
 use Rattle.kernel.proofs.Shapes.{tower-zero}
-use Rattle.kernel.proofs.Summing.{shape-some}
+use Rattle.kernel.proofs.Viewing.{shape-some}
 use Rattle.kernel.proofs.Slotting.{slots-first, slots-short, slots-bad, slots-small, slots-few, slots-end, slots-counts, three-allowed, three-some}
 use borrow.Author.Needs.{needs}
 use Rattle.kernel.proofs.slots.slots_number.Statement.{statement}

@@ -1,7 +1,8 @@
 use mir.Val.{toZ, ofZ}
 use mir.Syntax.{w64}
 use Rattle.arithmetic.proofs.Gains.{row-long}
-use Rattle.kernel.proofs.Summing.{sum-plain, sum-refused, sum-done, passed-by, shape-some, sum-some, call-terms, call-whole}
+use Rattle.kernel.proofs.Summing.{sum-plain, sum-refused, sum-done, sum-shape, sum-some, call-terms, call-whole}
+use Rattle.kernel.proofs.Viewing.{shape-some}
 use borrow.Author.Needs.{needs}
 use Rattle.kernel.proofs.sums.gained.Statement.{statement}
 use Rattle.kernel.proofs.sums.gained.Tie as tie
@@ -35,8 +36,8 @@ shape-of-requires c κs =
     let s = c .before .before .before in
     let sum-number = c .before .sum-number in
     let if1 = c .if1 in
-    passed-by (toZ w64 (ofZ w64 (s .args .p))) (toZ w64 (ofZ w64 (s .args .n))) (s .args .e) (s .args .t .now) (s .args .a .now) (s .args .b .now)
-    (sum-number .result) (sum-number .ensures) (if1 .left) .shape
+    sum-shape (toZ w64 (ofZ w64 (s .args .p))) (toZ w64 (ofZ w64 (s .args .n))) (s .args .e) (s .args .t .now) (s .args .a .now) (s .args .b .now)
+    (sum-number .result) (sum-number .ensures) (if1 .left)
 
 coefficients-requires : tie.Need-coefficients-requires
 coefficients-requires c κs =

@@ -1,4 +1,4 @@
-use Rattle.products.proofs.Lowests.{single-operands, single-written}
+use Rattle.products.proofs.Lowests.{gain-operands, single-written}
 use borrow.Author.Needs.{needs}
 use Rattle.products.proofs.lowest.single.Statement.{statement}
 use Rattle.products.proofs.lowest.single.Tie as tie
@@ -15,7 +15,7 @@ old-at-requires c κs = search needs
 gain-requires : tie.Need-gain-requires
 gain-requires c κs =
     let s = c .before .before .before .before .before .before in
-    single-operands (s .pre) (c .before .old-at .ensures) (c .before .before .before .reduce .ensures)
+    gain-operands (s .pre .modulus) (s .pre .old) (c .before .old-at .ensures) (c .before .before .before .reduce .ensures)
 
 put-requires : tie.Need-put-requires
 put-requires c κs = search needs
