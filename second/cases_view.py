@@ -22,7 +22,7 @@ def binary_slot(degrees, degree, count):
 
 def view_degrees():
     """'whichever has the higher degree, of a when they are equal': every two degrees."""
-    rng = random.Random(701)
+    rng = random.Random(751)
     for p, degrees in RINGS:
         for degree_a, degree_b in itertools.product((-1, 0, 1, 2), repeat=2):
             room_a = max(degree_a + 1, 1) + rng.randrange(3)
@@ -34,7 +34,7 @@ def view_degrees():
 
 def view_equal():
     """Equal degrees: slots of unlike lengths, and the same words twice."""
-    rng = random.Random(702)
+    rng = random.Random(752)
     for p, degrees in RINGS:
         for degree in (0, 1, 3):
             a, b = (random_slot(rng, p, degrees, degree, degree + 1 + more)
@@ -46,7 +46,7 @@ def view_equal():
 
 def view_zero():
     """One zero, and both: in slots of one and of more coefficients."""
-    rng = random.Random(703)
+    rng = random.Random(753)
     for p, degrees in RINGS:
         for room in (1, 2, 3):
             other = random_slot(rng, p, degrees, room - 1, room + 1)
@@ -121,7 +121,7 @@ def view_lengths():
 
 def view_largest():
     """'k from 1 to 256', 'at most 65,536 words': the last coefficient of long slots."""
-    rng = random.Random(704)
+    rng = random.Random(754)
     for count in (255, 256, 257):
         long, short = (random_slot(rng, 2147483647, (), degree, room)
                        for degree, room in [(count - 1, count), (254, 256)])

@@ -5,18 +5,17 @@
 -- row cap f                                == the row that division in place of f's cap coefficients leaves: row-low == below g the remainder,
 --                                             row-high == from g on the quotient, row-each == each coefficient made of those above it, row-top == the top one
 -- remainder-cut, quotient-cut              == where the dividend is zero from cap on, its cap lowest coefficients may be divided in its place
--- remainder-out, quotient-out, -none, -vec == any row whose coefficients are made so holds the remainder below g, and from g on the quotient
 use mathlib.Core.Path.{_≡_, refl, ap, ap₂, sym, _∙_, fun-ext}
 use Prim.Native.Nat.{ℕ, zero, suc, _+_, _-_, _≤_, _<_}
 use native.Mathlib.Omega.{arith}
 use Rattle.algebra.specs.Ring.{CRing, groupOf, zero-⊕, neg-zero}
 use Rattle.algebra.specs.Solve.{_:+_, _:-_, _:*_, _≐_, :~_, c0, c1, solve₁, solve₂, solve₃, solve₅}
-use Rattle.algebra.specs.Vec.{Vec, coef, Below, trunc, below-mono, coef-below, coef-trunc, trunc-at, trunc-coef, addᵛ, negᵛ, coef-add, coef-neg}
+use Rattle.algebra.specs.Vec.{Vec, coef, Below, trunc, below-mono, coef-below, coef-trunc, trunc-at, addᵛ, negᵛ, coef-add, coef-neg}
 use Rattle.algebra.specs.Series.{Series, SeriesRing, tail, cons, *ˢ-zero, *ˢ-suc, *ˢ-comm, 0ˢ-*}
 use Rattle.algebra.specs.Poly.{Poly, poly, _*ᴾ_, *-below, below-+, below-neg, crown}
 use Rattle.algebra.specs.Divide.{quotient, remainder, divided, quotient-is, remainder-is, quotient-below}
 use Rattle.algebra.specs.Quotient.{residue, residue-respects, residue-poly, same, mulᵛ}
-use Rattle.algebra.specs.Windows.{first, span, sum-cong, sum-none, window, product-at}
+use Rattle.algebra.specs.Windows.{span, sum-none, window, product-at}
 
 module _ (R : CRing) where
   open CRing R using (Car, 𝟘, _⊕_, _⊗_, ⊖_, ⊕-assoc, ⊕-zero)
@@ -35,11 +34,6 @@ module _ (R : CRing) where
   trunc-neg zero a n = sym (neg-zero R)
   trunc-neg (suc k) a zero = refl
   trunc-neg (suc k) a (suc n) = trunc-neg k (tail R a) n
-
-  -- of two that agree there
-  trunc-cong : (k : ℕ) (a b : Series R) → ((n : ℕ) → n < k → a n ≡ b n) → trunc k a ≡ trunc k b
-  trunc-cong zero a b e = refl
-  trunc-cong (suc k) a b e = λ i. (e zero (omega arith) i, trunc-cong k (tail R a) (tail R b) (λ n l. e (suc n) (omega arith)) i)
 
   -- z^g q
   abbrev raised : ℕ → Series R → Series R
@@ -77,11 +71,6 @@ module _ (R : CRing) where
   pub joined-high : (g : ℕ) (q : Series R) (r : Vec Car g) (j : ℕ) → joined g q r (g + j) ≡ q j
   unfolding joined
   joined-high g q r j = ap₂ _⊕_ (raised-high g q j) (coef-below 𝟘 g r (g + j) (omega arith)) ∙ ⊕-zero _
-
-  -- the window at k of a polynomial of g coefficients looks only at what, raised by g, stands above k
-  window-above : (g n : ℕ) (v a b : Series R) (k : ℕ) → ((j : ℕ) → k < g + j → j < n → a j ≡ b j) → window R g n v a k ≡ window R g n v b k
-  window-above g n v a b k e =
-      sum-cong R (span g n k) _ _ (λ u l. ap (λ x. v (first n k + u) ⊗ x) (e (first g k + (span g n k - 1 - u)) (omega arith) (omega arith)))
 
 module _ (R : CRing) (g : ℕ) (w : Vec (R .Car) g) where
   open CRing R using (Car, 𝟘, _⊕_, ⊖_, ⊕-assoc, ⊕-zero)
@@ -193,32 +182,3 @@ module _ (R : CRing) (g : ℕ) (w : Vec (R .Car) g) where
       ∙ ap (λ x. f k ⊕ (⊖ x)) (sum-none R (span g (cap - g) k) _ (λ u l. absurd (omega arith)))
       ∙ ap (λ x. f k ⊕ x) (neg-zero R)
       ∙ ⊕-zero _
-
-  -- and no other row is made so
-  module _ (cap : ℕ) (fits : g ≤ cap) (f out : ℕ → Car)
-      (each : (k : ℕ) → k < cap → out k ≡ f k ⊕ (⊖ window R g (cap - g) (coef 𝟘 g w) (λ j. out (g + j)) k)) where
-    -- from the top down, n bounding how far the top is
-    out-is : (n k : ℕ) → cap ≤ k + n → k < cap → out k ≡ row cap f k
-    out-is zero k h l = absurd (omega arith)
-    out-is (suc n) k h l =
-        each k l
-        ∙ ap (λ x. f k ⊕ (⊖ x)) (window-above R g (cap - g) (coef 𝟘 g w) _ _ k (λ j a b. out-is n (g + j) (omega arith) (omega arith)))
-        ∙ sym (row-each cap fits f k l)
-
-    -- below g the remainder
-    pub remainder-out : remainder R g w cap (trunc cap f) ≡ trunc g out
-    remainder-out = sym (trunc-coef 𝟘 g _) ∙ trunc-cong R g _ out (λ k l. sym (row-low cap f k l) ∙ sym (out-is cap k (omega arith) (omega arith)))
-
-    -- from g on the quotient, which has no more coefficients
-    pub quotient-out : (j : ℕ) → j < cap - g → coef 𝟘 cap (quotient R g w cap (trunc cap f)) j ≡ out (g + j)
-    quotient-out j l = sym (row-high cap f j) ∙ sym (out-is cap (g + j) (omega arith) (omega arith))
-
-    pub quotient-none : (j : ℕ) → cap - g ≤ j → coef 𝟘 cap (quotient R g w cap (trunc cap f)) j ≡ 𝟘
-    quotient-none j l = quo-below cap fits f j l
-
-    -- and so as a vector
-    pub quotient-vec : quotient R g w cap (trunc cap f) ≡ trunc cap (coef 𝟘 (cap - g) (trunc (cap - g) (λ j. out (g + j))))
-    quotient-vec =
-        sym (trunc-coef 𝟘 cap _)
-        ∙ ap (trunc cap) (sym (fun-ext (coef-trunc 𝟘 (cap - g) _ quotient-none)))
-        ∙ ap (λ v. trunc cap (coef 𝟘 (cap - g) v)) (trunc-cong R (cap - g) _ (λ j. out (g + j)) quotient-out)

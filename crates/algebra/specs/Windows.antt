@@ -4,7 +4,7 @@
 --                           from `first n k` on upwards with those of the second down to `first m k`
 -- sum R n h              == h 0 + .. + h (n - 1);  sum-split, sum-⊕, sum-neg, sum-swap == of two stretches, of sums, of negatives, in two orders
 -- window R m n f g k     == that sum of products;  product-at == it is the product's k-th coefficient, for every k
--- window-neg, window-cong == of a second factor's negative; it looks at m and n coefficients only
+-- window-neg             == of a second factor's negative
 use mathlib.Core.Path.{_≡_, refl, ap, ap₂, sym, _∙_}
 use Prim.Native.Nat.{ℕ, zero, suc, _+_, _-_, _≤_, _<_}
 use native.Mathlib.Omega.{arith}
@@ -124,9 +124,3 @@ module _ (R : CRing) where
   -- of a negative
   pub window-neg : (m n : ℕ) (f g : ℕ → Car) (k : ℕ) → window m n f (λ j. ⊖ g j) k ≡ ⊖ window m n f g k
   window-neg m n f g k = sum-cong (span m n k) _ _ (λ u l. ⊗-neg R _ _) ∙ sum-neg (span m n k) _
-
-  -- of equal coefficients
-  pub window-cong : (m n : ℕ) (f f′ g g′ : ℕ → Car) → ((j : ℕ) → j < m → f j ≡ f′ j) → ((j : ℕ) → j < n → g j ≡ g′ j)
-      → (k : ℕ) → window m n f g k ≡ window m n f′ g′ k
-  window-cong m n f f′ g g′ p q k =
-      sum-cong (span m n k) _ _ (λ u l. ap₂ _⊗_ (p (first n k + u) (omega arith)) (q (first m k + (span m n k - 1 - u)) (omega arith)))

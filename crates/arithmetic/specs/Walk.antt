@@ -4,9 +4,9 @@
 -- total n h            == h 0 + … + h (n - 1);  total-cong == of equal terms
 -- dotAt, dotsAt        == n pairs of residues, upwards in x and downwards in y, `step` words apart; rows of them, `apart` words apart
 -- pairAt d m x y i a b == of one pair of elements of level i, at a in x and at b in y: the number at the places m
--- runAt, rowsAt        == of n pairs of elements, and of rows of them
+-- runAt                == of n pairs of elements
 -- Readable, Residues   == a word that may be read as a number below 2^32; all residues of an element of level i
--- DotReady, DotsReady, WalkReady, RowsReady, PairsReady == what the code asks for
+-- DotReady, PairsReady == what the code asks for: n pairs of residues; n pairs of elements
 -- pick in w x          == the store w, or the lent words x
 use Prim.Native.Nat.{ℕ, zero, suc, _+_, _-_, _*_, _^_, _<_, _≤_}
 use native.Mathlib.Omega.{arith}
@@ -76,9 +76,6 @@ module _ (d m : List ℕ) (x y : List ℤ) where
   abbrev pub runAt : (i n step a b : ℕ) → ℕ
   runAt i n step a b = total n (λ u. pairAt i (a + u * step) (b + (n - 1 - u) * step))
 
-  abbrev pub rowsAt : (i rows apart n step a b : ℕ) → ℕ
-  rowsAt i rows apart n step a b = total rows (λ o. runAt i n step (a + o * apart) (b + (rows - 1 - o) * apart))
-
 -- ---- what the code asks for
 pub record Readable (x : List ℤ) (a : ℕ) : Type 0 where
   pub inside : a < length x
@@ -98,37 +95,11 @@ pub record Places (d z m : List ℕ) (i : ℕ) : Type 0 where
 abbrev pub Many : (d : List ℕ) (i n step : ℕ) → List ℤ → ℕ → Type 0
 Many d i n step x a = (u : ℕ) → u < n → Residues d i x (a + u * step)
 
-abbrev pub ManyRows : (d : List ℕ) (i rows apart n step : ℕ) → List ℤ → ℕ → Type 0
-ManyRows d i rows apart n step x a = (o : ℕ) → o < rows → Many d i n step x (a + o * apart)
-
 -- n pairs of residues
 pub record DotReady (x : List ℤ) (a : ℕ) (y : List ℤ) (b n step lo hi : ℕ) : Type 0 where
   pub left : (u : ℕ) → u < n → Readable x (a + u * step)
   pub right : (u : ℕ) → u < n → Readable y (b + u * step)
   pub room : Room n lo hi
-
--- rows of n pairs
-pub record DotsReady (x : List ℤ) (a : ℕ) (y : List ℤ) (b rows apart n step lo hi : ℕ) : Type 0 where
-  pub some : 0 < n
-  pub left : (o : ℕ) → o < rows → (u : ℕ) → u < n → Readable x (a + o * apart + u * step)
-  pub right : (o : ℕ) → o < rows → (u : ℕ) → u < n → Readable y (b + o * apart + u * step)
-  pub room : Room (rows * n) lo hi
-
--- n pairs of elements of level i
-pub record WalkReady (d z m : List ℕ) (i : ℕ) (x : List ℤ) (a : ℕ) (y : List ℤ) (b n step lo hi : ℕ) : Type 0 where
-  pub places : Places d z m i
-  pub some : 0 < n
-  pub left : Many d i n step x a
-  pub right : Many d i n step y b
-  pub room : Room (n * size d i) lo hi
-
--- rows of n such pairs
-pub record RowsReady (d z m : List ℕ) (i : ℕ) (x : List ℤ) (a : ℕ) (y : List ℤ) (b rows apart n step lo hi : ℕ) : Type 0 where
-  pub places : Places d z m i
-  pub some : 0 < n
-  pub left : ManyRows d i rows apart n step x a
-  pub right : ManyRows d i rows apart n step y b
-  pub room : Room (rows * (n * size d i)) lo hi
 
 -- ---- operands in the store or in lent words
 abbrev pub pick : Bool → List ℤ → List ℤ → List ℤ

@@ -1,18 +1,19 @@
 // Sums of products of residues over the coefficients of elements, for one place of each level: two lists are only read, the sum is a number in two
-// words. Of the two ways through a window, the longer is the innermost loop.
+// words. The pairs of a run and the windows of four levels are five ways through the words, and each way is one loop, over numbers alone.
 ghost use mathlib.Core.Path.{_≡_};
-ghost use Prim.Native.Nat.{_*_};
+ghost use Prim.Native.Nat.{_*_, _^_, _<_, _≤_};
+ghost use mathlib.Core.List.{[], _∷_};
 ghost use Rattle.residue.specs.Number.{Added};
 ghost use Rattle.residue.specs.Word.{at};
 ghost use Rattle.tower.specs.Writing.{size};
-ghost use Rattle.arithmetic.specs.Walk.{pick, Readable, PairsReady, dotAt, dotsAt, runAt, rowsAt, DotReady, DotsReady, WalkReady, RowsReady};
+ghost use Rattle.arithmetic.specs.Walk.{pick, Readable, Places, PairsReady, dotAt, runAt, DotReady};
+ghost use Rattle.arithmetic.specs.Box.{boxAt, volume, BoxReady, windowAt, fiveWays};
 use super::places::first_of;
 use super::places::place_at;
 use super::places::span_of;
 use residue::Accumulator;
 use residue::fold;
 use residue::get_residue;
-use tower::form::coefficient_at;
 use tower::sizes::degree_at;
 use tower::sizes::size_at;
 
@@ -58,8 +59,9 @@ pub fn dots(
     step: usize,
     s: Accumulator,
 ) -> Accumulator
-    requires { ⌜ DotsReady (now x) a (now y) b rows apart n step (s .lo) (s .hi) ⌝ }
-    ensures { λ r. ⌜ Added (rows * n) (dotsAt (now (x .entry)) (now (y .entry)) rows apart n step a b) (s .lo) (s .hi) (r .lo) (r .hi) ⌝ }
+    requires { ⌜ BoxReady (now x) a (now y) b ((rows, apart) ∷ (n, step) ∷ []) (s .lo) (s .hi) ⌝ }
+    ensures { λ r.
+        ⌜ Added (volume ((rows, apart) ∷ (n, step) ∷ [])) (boxAt (now (x .entry)) (now (y .entry)) ((rows, apart) ∷ (n, step) ∷ []) a b) (s .lo) (s .hi) (r .lo) (r .hi) ⌝ }
 {
     let mut r = s;
     let mut k: usize = 0;
@@ -70,81 +72,242 @@ pub fn dots(
     r
 }
 
-// Adds what n pairs of elements of level i come to at the places m, `step` words apart: upwards from a in x, downwards to b in y.
-pub fn walk(
-    i: usize,
-    d: [usize; 4],
-    z: [usize; 5],
-    m: [usize; 4],
+// The same over three ways, the outermost first: n pairs each, s words apart.
+pub fn box3(
     x: &[i64],
     a: usize,
     y: &[i64],
     b: usize,
-    n: usize,
-    step: usize,
+    n2: usize,
+    s2: usize,
+    n1: usize,
+    s1: usize,
+    n0: usize,
+    s0: usize,
     s: Accumulator,
 ) -> Accumulator
-    requires { ⌜ WalkReady d z m i (now x) a (now y) b n step (s .lo) (s .hi) ⌝ }
-    ensures { λ r. ⌜ Added (n * size d i) (runAt d m (now (x .entry)) (now (y .entry)) i n step a b) (s .lo) (s .hi) (r .lo) (r .hi) ⌝ }
-{
-    if i == 0 {
-        return dot(x, a, y, b, n, step, s);
-    }
-    let g = degree_at(d, i - 1);
-    let u = size_at(z, i - 1);
-    let k = place_at(m, i - 1);
-    let f = first_of(g, k);
-    let c = span_of(g, g, k);
-    let xa = coefficient_at(a, f, u);
-    let yb = coefficient_at(b, f, u);
-    if n < c {
-        return walk_rows(i - 1, d, z, m, x, xa, y, yb, n, step, c, u, s);
-    }
-    walk_rows(i - 1, d, z, m, x, xa, y, yb, c, u, n, step, s)
-}
-
-// The same of rows of such pairs, `apart` words apart.
-pub fn walk_rows(
-    i: usize,
-    d: [usize; 4],
-    z: [usize; 5],
-    m: [usize; 4],
-    x: &[i64],
-    a: usize,
-    y: &[i64],
-    b: usize,
-    rows: usize,
-    apart: usize,
-    n: usize,
-    step: usize,
-    s: Accumulator,
-) -> Accumulator
-    requires { ⌜ RowsReady d z m i (now x) a (now y) b rows apart n step (s .lo) (s .hi) ⌝ }
+    requires { ⌜ BoxReady (now x) a (now y) b ((n2, s2) ∷ (n1, s1) ∷ (n0, s0) ∷ []) (s .lo) (s .hi) ⌝ }
     ensures { λ r.
-        ⌜ Added (rows * (n * size d i)) (rowsAt d m (now (x .entry)) (now (y .entry)) i rows apart n step a b) (s .lo) (s .hi) (r .lo) (r .hi) ⌝ }
+        ⌜ Added (volume ((n2, s2) ∷ (n1, s1) ∷ (n0, s0) ∷ [])) (boxAt (now (x .entry)) (now (y .entry)) ((n2, s2) ∷ (n1, s1) ∷ (n0, s0) ∷ []) a b) (s .lo) (s .hi) (r .lo) (r .hi) ⌝ }
 {
-    if i == 0 {
-        return dots(x, a, y, b, rows, apart, n, step, s);
-    }
     let mut r = s;
     let mut k: usize = 0;
-    while k < rows {
-        r = walk(
-            i,
-            d,
-            z,
-            m,
+    while k < n2 {
+        r = dots(x, a + k * s2, y, b + (n2 - 1 - k) * s2, n1, s1, n0, s0, r);
+        k += 1;
+    }
+    r
+}
+
+// Over four ways.
+pub fn box4(
+    x: &[i64],
+    a: usize,
+    y: &[i64],
+    b: usize,
+    n3: usize,
+    s3: usize,
+    n2: usize,
+    s2: usize,
+    n1: usize,
+    s1: usize,
+    n0: usize,
+    s0: usize,
+    s: Accumulator,
+) -> Accumulator
+    requires { ⌜ BoxReady (now x) a (now y) b ((n3, s3) ∷ (n2, s2) ∷ (n1, s1) ∷ (n0, s0) ∷ []) (s .lo) (s .hi) ⌝ }
+    ensures { λ r.
+        ⌜ Added (volume ((n3, s3) ∷ (n2, s2) ∷ (n1, s1) ∷ (n0, s0) ∷ [])) (boxAt (now (x .entry)) (now (y .entry)) ((n3, s3) ∷ (n2, s2) ∷ (n1, s1) ∷ (n0, s0) ∷ []) a b) (s .lo) (s .hi) (r .lo) (r .hi) ⌝ }
+{
+    let mut r = s;
+    let mut k: usize = 0;
+    while k < n3 {
+        r = box3(
             x,
-            a + k * apart,
+            a + k * s3,
             y,
-            b + (rows - 1 - k) * apart,
-            n,
-            step,
+            b + (n3 - 1 - k) * s3,
+            n2,
+            s2,
+            n1,
+            s1,
+            n0,
+            s0,
             r,
         );
         k += 1;
     }
     r
+}
+
+// Over five ways.
+pub fn box5(
+    x: &[i64],
+    a: usize,
+    y: &[i64],
+    b: usize,
+    n4: usize,
+    s4: usize,
+    n3: usize,
+    s3: usize,
+    n2: usize,
+    s2: usize,
+    n1: usize,
+    s1: usize,
+    n0: usize,
+    s0: usize,
+    s: Accumulator,
+) -> Accumulator
+    requires { ⌜ BoxReady (now x) a (now y) b ((n4, s4) ∷ (n3, s3) ∷ (n2, s2) ∷ (n1, s1) ∷ (n0, s0) ∷ []) (s .lo) (s .hi) ⌝ }
+    ensures { λ r.
+        ⌜ Added (volume ((n4, s4) ∷ (n3, s3) ∷ (n2, s2) ∷ (n1, s1) ∷ (n0, s0) ∷ [])) (boxAt (now (x .entry)) (now (y .entry)) ((n4, s4) ∷ (n3, s3) ∷ (n2, s2) ∷ (n1, s1) ∷ (n0, s0) ∷ []) a b) (s .lo) (s .hi) (r .lo) (r .hi) ⌝ }
+{
+    let mut r = s;
+    let mut k: usize = 0;
+    while k < n4 {
+        r = box4(
+            x,
+            a + k * s4,
+            y,
+            b + (n4 - 1 - k) * s4,
+            n3,
+            s3,
+            n2,
+            s2,
+            n1,
+            s1,
+            n0,
+            s0,
+            r,
+        );
+        k += 1;
+    }
+    r
+}
+
+// The window of a level: where its first coefficients stand, how many pairs meet, and how far apart they are.
+pub struct Window {
+    pub at: usize,
+    pub count: usize,
+    pub step: usize,
+}
+
+// That of level l + 1 in elements of level i; a level that is not below i has one pair, at 0.
+pub fn window_at(i: usize, l: usize, d: [usize; 4], z: [usize; 5], m: [usize; 4]) -> Window
+    requires { ⌜ (l < 4) × Places d z m i × (size d i ≤ 2 ^ 32) ⌝ }
+    ensures { λ r. ⌜ r ≡ windowAt d m i l ⌝ }
+{
+    if i <= l {
+        return Window {
+            at: 0,
+            count: 1,
+            step: 0,
+        };
+    }
+    let g = degree_at(d, l);
+    let u = size_at(z, l);
+    let k = place_at(m, l);
+    let f = first_of(g, k);
+    let c = span_of(g, g, k);
+    Window {
+        at: 1 + f * u,
+        count: c,
+        step: u,
+    }
+}
+
+// The sum over the n pairs of a run, three windows and c residues; the longest of the three lowest ways is the innermost loop.
+pub fn box_sum(
+    x: &[i64],
+    a: usize,
+    y: &[i64],
+    b: usize,
+    n: usize,
+    step: usize,
+    h: Window,
+    t: Window,
+    l: Window,
+    c: usize,
+) -> Accumulator
+    requires { ⌜ BoxReady (now x) a (now y) b (fiveWays n step h t l c) 0 0 ⌝ }
+    ensures { λ r.
+        ⌜ Added (volume (fiveWays n step h t l c)) (boxAt (now (x .entry)) (now (y .entry)) (fiveWays n step h t l c) a b) 0 0 (r .lo) (r .hi) ⌝ }
+{
+    let s = Accumulator { lo: 0, hi: 0 };
+    if l.count < c {
+        if n < c {
+            return box5(
+                x,
+                a,
+                y,
+                b,
+                h.count,
+                h.step,
+                t.count,
+                t.step,
+                n,
+                step,
+                l.count,
+                l.step,
+                c,
+                1,
+                s,
+            );
+        }
+        return box5(
+            x,
+            a,
+            y,
+            b,
+            h.count,
+            h.step,
+            t.count,
+            t.step,
+            l.count,
+            l.step,
+            c,
+            1,
+            n,
+            step,
+            s,
+        );
+    }
+    if n < l.count {
+        return box5(
+            x,
+            a,
+            y,
+            b,
+            h.count,
+            h.step,
+            t.count,
+            t.step,
+            n,
+            step,
+            c,
+            1,
+            l.count,
+            l.step,
+            s,
+        );
+    }
+    box5(
+        x,
+        a,
+        y,
+        b,
+        h.count,
+        h.step,
+        t.count,
+        t.step,
+        l.count,
+        l.step,
+        c,
+        1,
+        n,
+        step,
+        s,
+    )
 }
 
 // What n pairs of elements of level i come to at the places m: upwards from a in x and downwards to b in y, each in the store w or in lent words.
@@ -166,19 +329,26 @@ pub fn sum_pairs(
     ensures { λ r.
         ⌜ Added (n * size d i) (runAt d m (pick «x_in» (now (w .entry)) (now (x .entry))) (pick «y_in» (now (w .entry)) (now (y .entry))) i n (size d i) a b) 0 0 (r .lo) (r .hi) ⌝ }
 {
-    let s = Accumulator { lo: 0, hi: 0 };
     if n == 0 {
-        return s;
+        return Accumulator { lo: 0, hi: 0 };
     }
     let u = size_at(z, i);
+    let h = window_at(i, 3, d, z, m);
+    let t = window_at(i, 2, d, z, m);
+    let l = window_at(i, 1, d, z, m);
+    let g = window_at(i, 0, d, z, m);
+    let f = h.at + t.at + l.at + g.at;
+    let xa = a + f;
+    let yb = b + f;
+    let c = g.count;
     if x_in {
         if y_in {
-            return walk(i, d, z, m, w, a, w, b, n, u, s);
+            return box_sum(w, xa, w, yb, n, u, h, t, l, c);
         }
-        return walk(i, d, z, m, w, a, y, b, n, u, s);
+        return box_sum(w, xa, y, yb, n, u, h, t, l, c);
     }
     if y_in {
-        return walk(i, d, z, m, x, a, w, b, n, u, s);
+        return box_sum(x, xa, w, yb, n, u, h, t, l, c);
     }
-    walk(i, d, z, m, x, a, y, b, n, u, s)
+    box_sum(x, xa, y, yb, n, u, h, t, l, c)
 }

@@ -16,7 +16,8 @@ use Rattle.kernel.proofs.Slotting.{put-whole, cleared-none, cleared-by}
 use Rattle.kernel.specs.Calls.{sizeOf, coefficientsOf, shapeTable, shapeNumber}
 use Rattle.kernel.specs.Divisions.{divisorDegree, monicWords, monicRow, divisionTable, divisionNumber}
 use Rattle.kernel.specs.Divisions.{remainderOf, quotientOf, remainderWords, quotientWords, DivisionWords}
-use Rattle.kernel.specs.Meaning.{DegreesIn}
+use Rattle.kernel.specs.DivisionMeaning.{top-lead}
+use Rattle.kernel.specs.Meaning.{DegreesIn, shape-tests}
 use Rattle.kernel.specs.Promises.{DivisionGiven}
 use Rattle.kernel.specs.Refusals.{unless, andThen, first-append, passed-of, first-of, ordered-numbered}
 use Rattle.kernel.specs.Shape.{Known, ShapeOf}
@@ -31,10 +32,10 @@ use Rattle.products.specs.Product.{work}
 use Rattle.residue.specs.Word.{num}
 use Rattle.algebra.specs.Test.{both-l, both-r, allTo-use, branch-yes}
 use Rattle.tower.proofs.Laws.{and-false-l, and-true-l}
-use Rattle.tower.specs.Form.{seg, copies, zeroWords, degreeOk, coefficientOk, formOver, inForm, slotForm}
+use Rattle.tower.specs.Form.{seg, copies, same, zeroWords, oneWords, degreeOk, coefficientOk, formOver, inForm, slotForm}
 use Rattle.tower.specs.Heads.{oneHead, one-head}
 use Rattle.tower.specs.Levels.{degree, Tower}
-use Rattle.tower.specs.Limits.{pOk, p-positive, degreesOf, few-size, slotLength, slotCount}
+use Rattle.tower.specs.Limits.{pOk, p-positive, degreesOf, slotLength, slotCount}
 use Rattle.tower.specs.Lists.{of-true, to-true, degree-low}
 use Rattle.tower.specs.Stands.{slot-stands}
 use Rattle.tower.specs.Store.{Kept, Put}
@@ -44,7 +45,7 @@ use borrow.Author.Tests.{le-leb, lt-leb}
 use mir.Syntax.{w64}
 use mir.Val.{SFits, toZ, ofZ}
 use mir.ValLaws.{toZ-ofZ}
-use mathlib.Core.Path.{_≡_, refl, sym, ap, ap₂, _∙_, subst, subst₂, subst₃}
+use mathlib.Core.Path.{_≡_, sym, ap, ap₂, _∙_, subst, subst₂, subst₃}
 use mathlib.Core.Bool.{Bool, true, false}
 use mathlib.Core.List.{List, [], _∷_}
 use Prim.Native.Nat.{ℕ, zero, suc, _+_, _-_, _*_, _^_, _<_, _≤_}
@@ -81,6 +82,7 @@ module _ (p : ℕ) (d : List ℕ) (i k : ℕ) (w : List ℤ) (h : T (slotForm p 
       let place = suc (divisorDegree w * size d i) in
       ap (oneHead i) (sym (take-append-drop (size d i) (drop place w)))
       ∙ sym (one-head p d i (seg place (size d i) w) (drop (size d i) (drop place w)) (form-at (divisorDegree w) (omega (arith, form-count))))
+      ∙ ap (λ x. same x (oneWords d i)) (sym (top-lead (size d i) w some))
       ∙ and-true-l (leb 1 (degreeCount w)) _ (le-leb 1 (degreeCount w) some)
 
 module _ (s : Shape) (p : ℕ) (b : List ℤ) (known : Known s) (allowed : slotLength (s .size) (length b) ≡ true)
@@ -141,7 +143,7 @@ module _ (s : Shape) (p : ℕ) (b : List ℤ) (known : Known s) (allowed : slotL
 -- N and degrees in range get no number
 range-shape : (n : ℤ) (e : List ℤ) → DegreesIn n e → 0 ≡ shapeNumber n e
 unfolding shapeNumber
-range-shape n e r = sym (first-of (shapeTable n e) (r .levels, (r .degrees, (few-size (degreesOf e) (num n) (r .few), tt))))
+range-shape n e r = sym (first-of (shapeTable n e) (shape-tests n e r))
 
 module _ (p n : ℤ) (e t a b q v : List ℤ) where
   -- the test that is added to those of `slots`

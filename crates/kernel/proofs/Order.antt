@@ -1,12 +1,12 @@
 -- Laws of the calls: from the numbers to what is known after them.
 use Rattle.kernel.proofs.Range.{small-of, levels-low}
 use Rattle.kernel.specs.Calls.{sizeOf, towerRow, shapeTable, baseTable, shapeNumber, baseNumber, towerNumber, slotNumber}
-use Rattle.kernel.specs.Refusals.{refused, refusal, Numbered, first-append, unless, andThen}
+use Rattle.kernel.specs.Refusals.{refused, refusal, Numbered, first-append, unless, andThen, passed-of}
 use Rattle.kernel.specs.SlotMeaning.{slot-is}
 use Rattle.residue.specs.Word.{num}
 use Rattle.tower.specs.Form.{seg, towerForm, slotForm}
 use Rattle.tower.specs.Limits.{pOk, degreesOf, levelsOk, degreesOk, slotCount, slotLength}
-use Rattle.tower.specs.Lists.{of-true}
+use Rattle.tower.specs.Lists.{to-true, of-true}
 use Rattle.tower.specs.Ready.{Small}
 use Rattle.tower.specs.Writing.{size}
 use mathlib.Core.Path.{_≡_, refl, sym, ap, ap₂, _∙_}
@@ -31,9 +31,9 @@ pub base-is : (p n : ℤ) (e : List ℤ) → baseNumber p n e ≡ unless (pOk p)
 unfolding baseNumber shapeNumber
 base-is p n e = refl
 
-pub tower-is : (p n : ℤ) (e t : List ℤ) → towerNumber p n e t ≡ andThen (baseNumber p n e) (unless (towerForm (num p) (degreesOf e) (num n) t) 3 0)
+pub tower-after-base : (p n : ℤ) (e t : List ℤ) → towerNumber p n e t ≡ andThen (baseNumber p n e) (unless (towerForm (num p) (degreesOf e) (num n) t) 3 0)
 unfolding towerNumber baseNumber
-tower-is p n e t = first-append (baseTable p n e) (towerRow p n e t ∷ []) (base-numbered p n e)
+tower-after-base p n e t = first-append (baseTable p n e) (towerRow p n e t ∷ []) (base-numbered p n e)
 
 -- what passed when no number came out
 pub record Passed (n : ℤ) (e : List ℤ) : Type 0 where
@@ -44,24 +44,19 @@ pub record Passed (n : ℤ) (e : List ℤ) : Type 0 where
 pub zero-of : (r : ℕ) → r ≤ 0 → 0 ≡ r
 zero-of r h = omega arith
 
-pub zero-unless : (b : Bool) (k r : ℕ) → 0 ≡ unless b (suc k) r → (b ≡ true) × (0 ≡ r)
-zero-unless true k r h = (refl, h)
-zero-unless false k r h = absurd (lt-irrefl 0 (omega arith))
-
 pub shape-passed : (n : ℤ) (e : List ℤ) → 0 ≡ shapeNumber n e → Passed n e
 unfolding shapeNumber
 shape-passed n e h =
-    let a = zero-unless (levelsOk n) 1 (unless (degreesOk (num n) e) 2 (unless (leb (size (degreesOf e) (num n)) 2048) 2 0)) h in
-    let b = zero-unless (degreesOk (num n) e) 1 (unless (leb (size (degreesOf e) (num n)) 2048) 2 0) (a .1) in
-    let c = zero-unless (leb (size (degreesOf e) (num n)) 2048) 1 0 (b .1) in
-    record { levels = a .0; degrees = b .0; few = c .0 }
-
-pub base-passed : (p n : ℤ) (e : List ℤ) → 0 ≡ baseNumber p n e → Passed n e
-base-passed p n e h = shape-passed n e (zero-unless (pOk p) 0 (shapeNumber n e) (h ∙ base-is p n e) .1)
+    let x = passed-of (shapeTable n e) (shape-numbered n e) (sym h) in
+    record { levels = to-true _ (x .0); degrees = to-true _ (x .1 .0); few = to-true _ (x .1 .1 .0) }
 
 pub zero-then : (a b : ℕ) → 0 ≡ andThen a b → 0 ≡ a
 zero-then zero b h = refl
 zero-then (suc a) b h = h
+
+pub then-second : (a b : ℕ) → 0 ≡ andThen a b → 0 ≡ b
+then-second zero b h = h
+then-second (suc a) b h = absurd (lt-irrefl 0 (omega arith))
 
 pub passed-small : (n : ℤ) (e : List ℤ) → Passed n e → Small (degreesOf e)
 passed-small n e h = small-of (num n) e (h .degrees)
@@ -83,13 +78,13 @@ then-next (suc a) b r k e h q = absurd (lt-irrefl 0 (omega arith))
 
 module _ (p n : ℤ) (e t : List ℤ) (r : ℕ) (er : r ≡ baseNumber p n e) where
   pub tower-first : 0 < r → r ≡ towerNumber p n e t
-  tower-first h = then-first (baseNumber p n e) _ r er h ∙ sym (tower-is p n e t)
+  tower-first h = then-first (baseNumber p n e) _ r er h ∙ sym (tower-after-base p n e t)
 
   pub tower-bad : r ≤ 0 → towerForm (num p) (degreesOf e) (num n) t ≡ false → 3 ≡ towerNumber p n e t
-  tower-bad h k = then-next (baseNumber p n e) (unless (towerForm (num p) (degreesOf e) (num n) t) 3 0) r 3 er h (rw k refl) ∙ sym (tower-is p n e t)
+  tower-bad h k = then-next (baseNumber p n e) (unless (towerForm (num p) (degreesOf e) (num n) t) 3 0) r 3 er h (rw k refl) ∙ sym (tower-after-base p n e t)
 
   pub tower-fine : r ≤ 0 → towerForm (num p) (degreesOf e) (num n) t ≡ true → 0 ≡ towerNumber p n e t
-  tower-fine h k = then-next (baseNumber p n e) (unless (towerForm (num p) (degreesOf e) (num n) t) 3 0) r 0 er h (rw k refl) ∙ sym (tower-is p n e t)
+  tower-fine h k = then-next (baseNumber p n e) (unless (towerForm (num p) (degreesOf e) (num n) t) 3 0) r 0 er h (rw k refl) ∙ sym (tower-after-base p n e t)
 
 module _ (p n : ℤ) (e t a : List ℤ) (r : ℕ) (er : r ≡ towerNumber p n e t) where
   abbrev pub fitsLength : Bool

@@ -13,7 +13,7 @@ use Rattle.algebra.specs.Test.{both-r, allTo-use}
 use Rattle.kernel.specs.Calls.{shapeNumber, baseNumber}
 use Rattle.kernel.specs.Refusals.{unless}
 use Rattle.residue.specs.Word.{num}
-use Rattle.tower.specs.Limits.{degreesOf, pOk, levelsOk, degreeIn, degreesOk}
+use Rattle.tower.specs.Limits.{degreesOf, pOk, levelsOk, degreeIn, degreesOk, levels-range}
 use Rattle.tower.specs.Lists.{eqZ-sound, of-true}
 use Rattle.tower.specs.Ready.{Small, Sized}
 use Rattle.tower.specs.Writing.{size}
@@ -36,11 +36,8 @@ small-of n e h = record { each = go }
     go (suc (suc (suc zero))) l = one 3 l
     go (suc (suc (suc (suc k)))) l = absurd (lt-irrefl 0 (omega arith))
 
-levels-at : (n : ℤ) → T (levelsOk n) → num n ≤ 4
-levels-at (pos m) h = leb→le m 4 (both-r (leb 0 m) _ h)
-
 pub levels-low : (n : ℤ) → levelsOk n ≡ true → num n ≤ 4
-levels-low n h = levels-at n (of-true (levelsOk n) h)
+levels-low n h = levels-range n .0 (of-true (levelsOk n) h) .2
 
 module _ (n : ℤ) (e : List ℤ) where
   pub shape-levels : levelsOk n ≡ false → 2 ≡ shapeNumber n e

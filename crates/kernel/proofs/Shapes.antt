@@ -7,10 +7,10 @@ use native.Mathlib.Omega.{arith}
 use lib.IntN.{ℤ}
 use lib.ListN.{length, getD}
 use Rattle.kernel.specs.declared.Shape.{Shape}
-use Rattle.kernel.proofs.Order.{tower-bad, tower-fine, slot-short, slot-end, seg-all, zero-of, zero-unless, zero-then, base-is, tower-is, tower-whole, shape-passed, passed-small, passed-low, passed-few}
+use Rattle.kernel.proofs.Order.{tower-bad, tower-fine, slot-short, slot-end, seg-all, zero-of, zero-then, base-is, tower-after-base, tower-whole, shape-passed, passed-small, passed-low, passed-few}
 use Rattle.kernel.proofs.Working.{passed-big}
 use Rattle.kernel.specs.Calls.{shapeNumber, baseNumber, towerNumber, slotNumber}
-use Rattle.kernel.specs.Refusals.{unless}
+use Rattle.kernel.specs.Refusals.{unless, zero-unless}
 use Rattle.kernel.specs.Shape.{Known, ShapeOf}
 use Rattle.residue.specs.Word.{num}
 use Rattle.tower.proofs.Lengths.{length-is}
@@ -64,10 +64,10 @@ module _ (s : Shape) (a : List ℤ) (k : Known s) (h : slotLength (s .size) (len
 
 -- ---- what a call learns from the tests of its callees
 pub shape-zero : (p n : ℤ) (e : List ℤ) (r : ℕ) → r ≡ baseNumber p n e → r ≤ 0 → 0 ≡ shapeNumber n e
-shape-zero p n e r er h = zero-unless (pOk p) 0 (shapeNumber n e) (zero-of r h ∙ er ∙ base-is p n e) .1
+shape-zero p n e r er h = sym (zero-unless (pOk p) 1 (shapeNumber n e) (omega arith) (sym (zero-of r h ∙ er ∙ base-is p n e)) .1)
 
 pub tower-zero : (p n : ℤ) (e t : List ℤ) (r : ℕ) → r ≡ towerNumber p n e t → r ≤ 0 → 0 ≡ shapeNumber n e
-tower-zero p n e t r er h = shape-zero p n e (baseNumber p n e) refl (omega (arith, zero-then (baseNumber p n e) _ (zero-of r h ∙ er ∙ tower-is p n e t)))
+tower-zero p n e t r er h = shape-zero p n e (baseNumber p n e) refl (omega (arith, zero-then (baseNumber p n e) _ (zero-of r h ∙ er ∙ tower-after-base p n e t)))
 
 module _ (p n : ℤ) (e : List ℤ) (s : Shape) (is : ShapeOf n e s) (q : ℕ) (eq : q ≡ num p) where
   tower-found : (t : List ℤ) (b : Bool) → b ≡ towerForm q (s .degrees) (s .levels) t → towerForm (num p) (degreesOf e) (num n) t ≡ b

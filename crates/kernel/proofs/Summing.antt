@@ -1,5 +1,5 @@
 -- Laws of sum and difference.
-use Rattle.kernel.proofs.Order.{then-first, then-next, zero-of, zero-then, zero-unless, seg-all}
+use Rattle.kernel.proofs.Order.{then-first, then-next, zero-of, zero-then, then-second, seg-all}
 use Rattle.kernel.proofs.Shapes.{size-found}
 use Rattle.kernel.proofs.Viewing.{and-split, view-shape}
 use Rattle.kernel.specs.Calls.{sizeOf, coefficientsOf, lengthOk, shapeNumber}
@@ -7,7 +7,7 @@ use Rattle.kernel.specs.Slots.{degreeCount, changedBy}
 use Rattle.kernel.specs.Sums.{sumNumber, sumOf, sumBy, sumWords}
 use Rattle.kernel.specs.ViewMeaning.{Viewed, viewed}
 use Rattle.kernel.specs.Views.{viewTable, viewNumber}
-use Rattle.kernel.specs.Refusals.{done, refused, first-append, ordered-numbered, unless, andThen}
+use Rattle.kernel.specs.Refusals.{done, refused, first-append, ordered-numbered, unless, andThen, zero-unless}
 use Rattle.kernel.specs.Shape.{ShapeOf}
 use Rattle.kernel.specs.declared.Shape.{Shape}
 use Rattle.kernel.specs.declared.Answer.{Answer}
@@ -62,15 +62,11 @@ module _ (p n : ℤ) (e t a b : List ℤ) where
     pub tests : Viewed p n e t a b
     pub room-pass : room ≡ true
 
-  then-last : (x y : ℕ) → 0 ≡ andThen x y → 0 ≡ y
-  then-last zero y h = h
-  then-last (suc x) y h = absurd (lt-irrefl 0 (omega arith))
-
   pub passed : 0 ≡ sumNumber p n e t a b → Passed
   passed h =
       let w = h ∙ sum-is in record {
         tests = viewed p n e t a b (sym (zero-then (viewNumber p n e t a b) (unless room 6 0) w));
-        room-pass = zero-unless room 5 0 (then-last (viewNumber p n e t a b) (unless room 6 0) w) .0;
+        room-pass = to-true room (zero-unless room 6 0 (omega arith) (sym (then-second (viewNumber p n e t a b) (unless room 6 0) w)) .0);
       }
 
 -- ---- what is known then: both slots stand, and the sum is the whole of a's slot

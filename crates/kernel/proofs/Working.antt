@@ -2,51 +2,33 @@
 use mir.Syntax.{w64}
 use mir.Val.{SFits, toZ, ofZ}
 use mir.ValLaws.{toZ-ofZ}
-use Rattle.algebra.specs.Test.{both-l, both-r, allTo-use}
-use Rattle.kernel.proofs.Order.{zero-of, shape-numbered, Passed, shape-passed, passed-low, then-first, then-next, zero-then, zero-unless}
+use Rattle.algebra.specs.Test.{both-l, both-r}
+use Rattle.kernel.proofs.Order.{zero-of, shape-numbered, Passed, shape-passed, then-first, then-next, zero-then, then-second}
 use Rattle.kernel.specs.Calls.{sizesBy, degreesRow, shapeTable, workNumber, shapeNumber}
+use Rattle.kernel.specs.Meaning.{shape-in, degrees-two}
 use Rattle.kernel.specs.Promises.{SizesGiven}
-use Rattle.kernel.specs.Refusals.{done, refused, first-append, unless, andThen}
+use Rattle.kernel.specs.Refusals.{done, refused, first-append, unless, andThen, zero-unless}
 use Rattle.residue.specs.Word.{num}
 use Rattle.tower.proofs.Laws.{and-false-l, and-false-r}
 use Rattle.tower.specs.Writing.{countOf}
-use Rattle.tower.specs.Limits.{degreesOf, degreeIn, degreesOk, workDegree}
+use Rattle.tower.specs.Limits.{degreesOf, workDegree}
 use Rattle.tower.specs.Lists.{of-true}
 use Rattle.tower.specs.Work.{productWork, inverseWork, gcdWork}
 use Rattle.kernel.specs.declared.WorkSizes.{WorkSizes}
 use Rattle.kernel.specs.declared.Answer.the-variants.{Done, Refused}
-use mathlib.Core.Path.{refl, subst₃, _∙_, _≡_, sym, ap, ap₂, subst}
+use mathlib.Core.Path.{refl, subst₃, _∙_, _≡_, sym, ap, ap₂}
 use mathlib.Core.Bool.{Bool, true, false, _&&_}
 use mathlib.Core.List.{List, [], _∷_}
 use Prim.Native.Nat.{ℕ, zero, suc, _<_, _≤_}
 use native.Mathlib.Nat.{lt-irrefl}
 use native.Mathlib.Omega.{arith}
 use lib.IntN.{ℤ, pos, negsuc}
-use lib.Dec.{T, ltb, leb, leb→le}
+use lib.Dec.{T, leb, leb→le}
 use lib.ListN.{getD}
-use borrow.Author.Tests.{lt-ltb}
 
 -- ---- degrees of at least 2
-at-least-two : (g : ℤ) → T (degreeIn true g) → 2 ≤ num g
-at-least-two (pos m) h = leb→le 2 m (both-l (leb 2 m) _ h)
-
 pub passed-big : (n : ℤ) (e : List ℤ) → Passed n e → (k : ℕ) → k < num n → 2 ≤ getD (degreesOf e) k 0
-passed-big n e h k l = go k l
-  where
-    low : num n ≤ 4
-    low = passed-low n e h
-
-    one : (k : ℕ) → k < 4 → k < num n → 2 ≤ num (getD e k (pos 0))
-    one k q l =
-        let t = allTo-use 4 (λ j. degreeIn (ltb j (num n)) (getD e j (pos 0))) (of-true (degreesOk (num n) e) (h .degrees)) k q in
-        at-least-two (getD e k (pos 0)) (subst (λ x. T (degreeIn x (getD e k (pos 0)))) (lt-ltb k (num n) l) t)
-
-    go : (k : ℕ) → k < num n → 2 ≤ getD (degreesOf e) k 0
-    go zero l = one 0 (omega arith) l
-    go (suc zero) l = one 1 (omega arith) l
-    go (suc (suc zero)) l = one 2 (omega arith) l
-    go (suc (suc (suc zero))) l = one 3 (omega arith) l
-    go (suc (suc (suc (suc k)))) l = absurd (lt-irrefl 0 (omega (arith, low)))
+passed-big n e h = degrees-two n e (shape-in n e (of-true _ (h .levels)) (of-true _ (h .degrees)) (of-true _ (h .few)))
 
 work-count : (g : ℤ) → T (workDegree g) → countOf g ≤ 256
 work-count (pos m) h = let q = leb→le m 255 h in omega arith
@@ -78,14 +60,11 @@ pub record Worked (n : ℤ) (e : List ℤ) (a b : ℤ) : Type 0 where
   pub count-a : countOf a ≤ 256
   pub count-b : countOf b ≤ 256
 
-then-second : (x y : ℕ) → 0 ≡ andThen x y → 0 ≡ y
-then-second zero y h = h
-then-second (suc x) y h = absurd (lt-irrefl 0 (omega arith))
-
 pub worked : (n : ℤ) (e : List ℤ) (a b : ℤ) → 0 ≡ workNumber n e a b → Worked n e a b
 worked n e a b h′ =
     let h = h′ ∙ work-is n e a b in
-    let t = of-true (workDegree a && workDegree b) (zero-unless (workDegree a && workDegree b) 4 0 (then-second (shapeNumber n e) (unless (workDegree a && workDegree b) 5 0) h) .0) in
+    let rest = then-second (shapeNumber n e) (unless (workDegree a && workDegree b) 5 0) h in
+    let t = zero-unless (workDegree a && workDegree b) 5 0 (omega arith) (sym rest) .0 in
     record {
       passed = shape-passed n e (zero-then (shapeNumber n e) (unless (workDegree a && workDegree b) 5 0) h);
       count-a = work-count a (both-l (workDegree a) (workDegree b) t);

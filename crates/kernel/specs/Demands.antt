@@ -1,24 +1,21 @@
 -- The three demands, sentence by sentence: each is a theorem about the definitions that the contracts of the public calls cite. A sentence stands above its theorem.
 --
--- Settled, FirstNumber, first-number == demand 1: on any input one number's condition holds, and the call refuses by that number
--- WordsKept, words-kept == and then no lent word has changed;  empty-part == the leading view shows an empty part
--- Over               == over the one tower whose words are given
+-- OneNumber, Settled, Plain, Showing, FirstNumber, first-number == demand 1: on any input one number's condition holds, and the call refuses by that number
+-- WordsKept, words-kept == and then no lent word has changed;  empty-part == the leading view shows an empty part;  Over == over the one tower whose words are given
 -- RingCalls, ring-calls == demand 2: sum, product, quotient and remainder;  SequenceCalls, sequence-calls == inverse, GCD and factor
--- OneWriting, one-writing == one writing for one polynomial
--- GcdDescribed, FactorDescribed, ThirdDemand, third-demand == demand 3
+-- OneWriting, one-writing == one writing for one polynomial;  FactorDescribed, ThirdDemand, third-demand == demand 3;  GcdHeld is its description of a GCD
 use Prim.Native.Nat.{ℕ, zero, suc, _≤_}
 use mathlib.Core.Path.{_≡_, refl, sym, ap, _∙_, subst}
 use mathlib.Core.Bool.{Bool, true, false}
-use mathlib.Core.Logic.{_⊎_, inl, _↔_}
+use mathlib.Core.Logic.{_⊎_, _↔_}
 use mathlib.Core.List.{List, []}
 use lib.IntN.{ℤ}
 use lib.Dec.{T, T-prop}
 use lib.ListN.{length, take}
-use Rattle.algebra.specs.Divisor.{Dvd}
-use Rattle.algebra.specs.PolyRing.{P, PolyRing, pol}
+use Rattle.algebra.specs.PolyRing.{P, pol}
 use Rattle.algebra.specs.Ring.{CRing}
 use Rattle.algebra.specs.Series.{Series, SeriesRing, _*ˢ_}
-use Rattle.algebra.specs.Vec.{Below, coef-below}
+use Rattle.algebra.specs.Vec.{Below, coef}
 use Rattle.arithmetic.specs.Sum.{gained}
 use Rattle.residue.specs.Word.{num}
 use Rattle.tower.specs.Levels.{group, ring}
@@ -37,7 +34,7 @@ use Rattle.kernel.specs.DivisionMeaning.{division-tower, divisor-below, 
 use Rattle.kernel.specs.Divisions.{divisorDegree, divisionNumber, division}
 use Rattle.kernel.specs.FractionMeaning.{FractionMeans, fraction-answers, fraction-says, fraction-given}
 use Rattle.kernel.specs.GcdAnswers.{GcdMeans, gcd-says, gcd-given, gcd-sequence, gcd-ends, gcd-unrefused, gcd-answers, gcd-never-long, gcd-passes}
-use Rattle.kernel.specs.GcdMeaning.{gcd-tower, gcd-modulus, gcd-kind, gcd-done, gcd-factor, gcd-left, gcd-held, gcd-shown, gcd-free}
+use Rattle.kernel.specs.GcdMeaning.{GcdHeld, gcd-tower, gcd-modulus, gcd-kind, gcd-done, gcd-factor, gcd-left, gcd-held, gcd-shown, gcd-free}
 use Rattle.kernel.specs.Gcds.{gcdRoom, gcdNumber, gcdBy, gcd}
 use Rattle.kernel.specs.InverseAnswers.{ElementOf, ElementLong, elementWords, zeroOf, element-is, InverseMeans, inverse-says, inverse-given}
 use Rattle.kernel.specs.InverseAnswers.{inverse-sequence, inverse-ends, inverse-unrefused, inverse-answers, inverse-never-long}
@@ -56,6 +53,7 @@ use Rattle.kernel.specs.Slots.{polynomialOf, coefficientsIn, changedBy}
 use Rattle.kernel.specs.SumAnswers.{SumMeans, sum-says, sum-given, sum-answers}
 use Rattle.kernel.specs.SumMeaning.{sum-modulus, sum-coefficients}
 use Rattle.kernel.specs.Sums.{sumNumber, sum}
+use Rattle.kernel.specs.ViewMeaning.{ViewMeans, view-says, view-given, part-none}
 use Rattle.kernel.specs.Views.{viewNumber, leadingView}
 use Rattle.kernel.specs.WorkMeaning.{WorkMeans, work-says, work-given, work-answers}
 
@@ -63,35 +61,45 @@ use Rattle.kernel.specs.WorkMeaning.{WorkMeans, work-says, work-given, w
 -- "Every call returns, on any modulus, tower, slot and work store, and nobody has looked at them first.": the contracts ask for nothing, and the check proves that
 -- every function ends. "What it cannot do it refuses by the first number that applies in the table of document 01": M is what each number says of an input, 0 that
 -- none applies
-pub record Settled (said : Said) (M : ℕ → Type 0) : Type 0 where
+pub record OneNumber (M : ℕ → Type 0) : Type 0 where
   -- on any input one of them holds
   pub some : (k : ℕ) × M k
   -- and only one: what a number says is also that none before it applies
   pub one : (i j : ℕ) → M i → M j → i ≡ j
-  -- and the call refuses by that number
+
+-- a call that says `said`, and where it does not refuse P
+pub record Settled (said : Said) (P : Type 0) (M : ℕ → Type 0) : Type 0 where
+  pub number : OneNumber M
+  -- it refuses by that number
   pub refuses : (j : ℕ) → (said ≡ refused (suc j)) ↔ M (suc j)
-  -- and else gives what is asked, or shows a factor
-  pub passes : M 0 → (said ≡ done) ⊎ ((l : ℕ) × (said ≡ factor l))
+  pub passes : M 0 → P
 
-settled : {said : Said} (k : ℕ) (M : ℕ → Type 0) → ((j : ℕ) → k ≡ j → M j) → ((j : ℕ) → M j → k ≡ j)
-    → ((j : ℕ) → (said ≡ refused (suc j)) ↔ M (suc j)) → (M 0 → (said ≡ done) ⊎ ((l : ℕ) × (said ≡ factor l))) → Settled said M
-settled k M says given refuses passes = record { some = (k, says k refl); one = λ i j x y. sym (given i x) ∙ given j y; refuses = refuses; passes = passes }
+-- it gives what is asked
+abbrev pub Plain : Said → (ℕ → Type 0) → Type 0
+Plain said = Settled said (said ≡ done)
 
--- a call that shows no factor
-plain : {said : Said} (k : ℕ) (M : ℕ → Type 0) → ((j : ℕ) → k ≡ j → M j) → ((j : ℕ) → M j → k ≡ j)
-    → ((j : ℕ) → (said ≡ refusal j) ↔ M j) → Settled said M
-plain k M says given answers = settled k M says given (λ j. answers (suc j)) (λ x. inl (answers 0 .1 x))
+-- or shows a factor
+abbrev pub Showing : Said → (ℕ → Type 0) → Type 0
+Showing said = Settled said ((said ≡ done) ⊎ ((l : ℕ) × (said ≡ factor l)))
+
+one-number : (k : ℕ) (M : ℕ → Type 0) → ((j : ℕ) → k ≡ j → M j) → ((j : ℕ) → M j → k ≡ j) → OneNumber M
+one-number k M says given = record { some = (k, says k refl); one = λ i j x y. sym (given i x) ∙ given j y }
+
+plain : {said : Said} (k : ℕ) (M : ℕ → Type 0) → ((j : ℕ) → k ≡ j → M j) → ((j : ℕ) → M j → k ≡ j) → ((j : ℕ) → (said ≡ refusal j) ↔ M j) → Plain said M
+plain k M says given answers = record { number = one-number k M says given; refuses = λ j. answers (suc j); passes = answers 0 .1 }
 
 pub record FirstNumber : Type 0 where
-  pub tower : (p n : ℤ) (e t : List ℤ) → Settled (checkTower p n e t) (TowerMeans p n e t)
-  pub slot : (p n : ℤ) (e t a : List ℤ) → Settled (checkSlot p n e t a) (SlotMeans p n e t a)
-  pub sizes : (n : ℤ) (e : List ℤ) (a b : ℤ) → Settled (workSizes n e a b .said) (WorkMeans n e a b)
-  pub fraction : (p n e : ℤ) → Settled (fraction p n e .said) (FractionMeans p e)
-  pub sum : (neg : Bool) (p n : ℤ) (e t a b : List ℤ) → Settled (sum neg p n e t a b .said) (SumMeans p n e t a b)
-  pub product : (p n : ℤ) (e t a b c v : List ℤ) → Settled (product p n e t a b c v .said) (ProductMeans p n e t a b c v)
-  pub division : (p n : ℤ) (e t a b q v : List ℤ) → Settled (division p n e t a b q v .said) (DivisionMeans p n e t a b q v)
-  pub inverse : (p n : ℤ) (e t c r f v : List ℤ) → Settled (inverse p n e t c r f v .said) (InverseMeans p n e t c r f v)
-  pub gcd : (p n : ℤ) (e t a b g f v : List ℤ) → Settled (gcd p n e t a b g f v .said) (GcdMeans p n e t a b g f v)
+  pub tower : (p n : ℤ) (e t : List ℤ) → Plain (checkTower p n e t) (TowerMeans p n e t)
+  pub slot : (p n : ℤ) (e t a : List ℤ) → Plain (checkSlot p n e t a) (SlotMeans p n e t a)
+  pub sizes : (n : ℤ) (e : List ℤ) (a b : ℤ) → Plain (workSizes n e a b .said) (WorkMeans n e a b)
+  pub fraction : (p n e : ℤ) → Plain (fraction p n e .said) (FractionMeans p e)
+  -- it hands out no number
+  pub view : (p n : ℤ) (e t a b : List ℤ) → OneNumber (ViewMeans p n e t a b)
+  pub sum : (neg : Bool) (p n : ℤ) (e t a b : List ℤ) → Plain (sum neg p n e t a b .said) (SumMeans p n e t a b)
+  pub product : (p n : ℤ) (e t a b c v : List ℤ) → Plain (product p n e t a b c v .said) (ProductMeans p n e t a b c v)
+  pub division : (p n : ℤ) (e t a b q v : List ℤ) → Plain (division p n e t a b q v .said) (DivisionMeans p n e t a b q v)
+  pub inverse : (p n : ℤ) (e t c r f v : List ℤ) → Showing (inverse p n e t c r f v .said) (InverseMeans p n e t c r f v)
+  pub gcd : (p n : ℤ) (e t a b g f v : List ℤ) → Showing (gcd p n e t a b g f v .said) (GcdMeans p n e t a b g f v)
 
 pub first-number : FirstNumber
 first-number = record {
@@ -100,16 +108,21 @@ first-number = record {
   sizes = λ n e a b. plain (workNumber n e a b) _ (work-says n e a b) (work-given n e a b) (work-answers n e a b);
   fraction = λ p n e. plain (fractionNumber p e) _ (fraction-says p e) (fraction-given p e) (λ j. (let x = fraction-answers p e n j in
       (λ h. fraction-says p e j (x .0 h), λ m. x .1 (fraction-given p e j m))));
+  view = λ p n e t a b. one-number (viewNumber p n e t a b) _ (view-says p n e t a b) (view-given p n e t a b);
   sum = λ neg p n e t a b. plain (sumNumber p n e t a b) _ (sum-says p n e t a b) (sum-given p n e t a b) (sum-answers p n e t a b neg);
   product = λ p n e t a b c v. plain (productNumber p n e t a b c v) _ (product-says p n e t a b c v) (product-given p n e t a b c v) (product-answers p n e t a b c v);
   division = λ p n e t a b q v.
       plain (divisionNumber p n e t a b q v) _ (division-says p n e t a b q v) (division-given p n e t a b q v) (division-answers p n e t a b q v);
-  inverse = λ p n e t c r f v.
-      settled (inverseNumber p n e t c r f v) _ (inverse-says p n e t c r f v) (inverse-given p n e t c r f v) (inverse-answers p n e t c r f v)
-      (λ h. inverse-kind p n e t c r f v (inverse-given p n e t c r f v 0 h));
-  gcd = λ p n e t a b g f v.
-      settled (gcdNumber p n e t a b g f v) _ (gcd-says p n e t a b g f v) (gcd-given p n e t a b g f v) (gcd-answers p n e t a b g f v)
-      (λ h. gcd-kind p n e t a b g f v (gcd-given p n e t a b g f v 0 h));
+  inverse = λ p n e t c r f v. record {
+    number = one-number (inverseNumber p n e t c r f v) _ (inverse-says p n e t c r f v) (inverse-given p n e t c r f v);
+    refuses = inverse-answers p n e t c r f v;
+    passes = λ h. inverse-kind p n e t c r f v (inverse-given p n e t c r f v 0 h);
+  };
+  gcd = λ p n e t a b g f v. record {
+    number = one-number (gcdNumber p n e t a b g f v) _ (gcd-says p n e t a b g f v) (gcd-given p n e t a b g f v);
+    refuses = gcd-answers p n e t a b g f v;
+    passes = λ h. gcd-kind p n e t a b g f v (gcd-given p n e t a b g f v 0 h);
+  };
 }
 
 -- "and then no lent word has changed, except that number 11 clears its work words": so inverseBy and gcdBy have it, but number 11 is never given. The other calls are
@@ -143,8 +156,8 @@ words-kept = record {
 }
 
 -- "The leading view shows an empty part in place of a number."
-pub empty-part : (p n : ℤ) (e t a b : List ℤ) (j : ℕ) → viewNumber p n e t a b ≡ suc j → leadingView p n e t a b ≡ []
-empty-part p n e t a b j h = rw h refl
+pub empty-part : (p n : ℤ) (e t a b : List ℤ) (j : ℕ) → ViewMeans p n e t a b (suc j) → leadingView p n e t a b ≡ []
+empty-part p n e t a b j h = part-none p n e t a b j (view-given p n e t a b (suc j) h)
 
 -- ==== over a tower: t is the words of exactly one, p is in range, and X holds of it
 abbrev pub Over : (p n : ℤ) (e t : List ℤ) → (T (pOk p) → TowerOf p n e → Type 0) → Type 0
@@ -298,16 +311,6 @@ one-writing = record {
 
 -- ==== 3
 module _ (p n : ℤ) (e : List ℤ) (m : T (pOk p)) (s : TowerOf p n e) where
-  -- "When a GCD of a and b is given, its leading coefficient is 1 unless a and b are both zero, and then it is zero; and a polynomial over that tower divides it
-  -- precisely when it divides both a and b."
-  pub record GcdDescribed (a b g : List ℤ) : Type 0 where
-    pub leading : ¬ ((Polynomial p n e m s a ≡ PolyRing (Top p n e m s) .𝟘) × (Polynomial p n e m s b ≡ PolyRing (Top p n e m s) .𝟘))
-        → Monic (Top p n e m s) (Coefficients p n e m s g)
-    pub is-zero : (Polynomial p n e m s g ≡ PolyRing (Top p n e m s) .𝟘)
-        ↔ ((Polynomial p n e m s a ≡ PolyRing (Top p n e m s) .𝟘) × (Polynomial p n e m s b ≡ PolyRing (Top p n e m s) .𝟘))
-    pub divisors : (q : P (Top p n e m s)) → Dvd (PolyRing (Top p n e m s)) q (Polynomial p n e m s g)
-        ↔ (Dvd (PolyRing (Top p n e m s)) q (Polynomial p n e m s a) × Dvd (PolyRing (Top p n e m s)) q (Polynomial p n e m s b))
-
   -- "When a factor is shown instead, it is a monic proper factor of the named tower polynomial, of degree 1 or more, or at level 0 a number between 1 and the modulus
   -- that divides it.": the words of level l of the factor buffer hold it
   pub record FactorDescribed (l : ℕ) (f : List ℤ) : Type 0 where
@@ -324,8 +327,10 @@ module _ (p n : ℤ) (e : List ℤ) (m : T (pOk p)) (s : TowerOf p n e) where
   }
 
 pub record ThirdDemand : Type 0 where
-  pub given : (p n : ℤ) (e t a b g f v : List ℤ) → gcd p n e t a b g f v .said ≡ done
-      → Over p n e t (λ m s. GcdDescribed p n e m s a b (gcd p n e t a b g f v .words .gcd))
+  -- "When a GCD of a and b is given, its leading coefficient is 1 unless a and b are both zero, and then it is zero; and a polynomial over that tower divides it
+  -- precisely when it divides both a and b."
+  pub given : (p n : ℤ) (e t a b g f v : List ℤ) → gcd p n e t a b g f v .said ≡ done → Over p n e t (λ m s.
+      GcdHeld (Top p n e m s) (Polynomial p n e m s a) (Polynomial p n e m s b) (Polynomial p n e m s (gcd p n e t a b g f v .words .gcd)))
   pub shows : (p n : ℤ) (e t a b g f v : List ℤ) (l : ℕ) → gcd p n e t a b g f v .said ≡ factor l
       → Over p n e t (λ m s. FactorDescribed p n e m s l (gcd p n e t a b g f v .words .factor))
   -- in place of an inverse too
@@ -335,12 +340,13 @@ pub record ThirdDemand : Type 0 where
   pub free : (p n : ℤ) (e t a b g f v : List ℤ) → GcdMeans p n e t a b g f v 0
       → Over p n e t (λ m s. Free (num p) (p-positive p m) (degreesOf e) (num n) s) → gcd p n e t a b g f v .said ≡ done
   -- "This holds for every accepted modulus and tower, prime or not.": every modulus, degrees and tower in range are accepted, and every two polynomials over it with
-  -- room for the answer get their GCD or are shown a factor
+  -- room for the answer and work store enough, by their degrees, get their GCD or are shown a factor: u is zero from i on, w from j on
   pub accepted : (p n : ℤ) (e : List ℤ) (r : InRange p n e) (s : TowerOf p n e) (k l : ℕ) → Allowed n e k → Allowed n e l
-      → (u : PolynomialOf p n e k) (w : PolynomialOf p n e l) (g f v : List ℤ) → SlotLong n e g → ElementLong n e f
-      → gcdRoom k l ≤ coefficientsOf n e g → gcdWork (degreesOf e) (num n) k l ≤ length v
+      → (u : PolynomialOf p n e k) (w : PolynomialOf p n e l) (g f v : List ℤ) → SlotLong n e g → ElementLong n e f → (i j : ℕ)
+      → Below (zeroOf p n e (r .modulus)) i (coef (zeroOf p n e (r .modulus)) k u) → Below (zeroOf p n e (r .modulus)) j (coef (zeroOf p n e (r .modulus)) l w)
+      → gcdRoom i j ≤ coefficientsOf n e g → gcdWork (degreesOf e) (num n) i j ≤ length v
       → (gcd p n e (wordsOf p n e (r .modulus) s) (slotOf p n e k u) (slotOf p n e l w) g f v .said ≡ done)
-      ⊎ ((i : ℕ) × (gcd p n e (wordsOf p n e (r .modulus) s) (slotOf p n e k u) (slotOf p n e l w) g f v .said ≡ factor i))
+      ⊎ ((h : ℕ) × (gcd p n e (wordsOf p n e (r .modulus) s) (slotOf p n e k u) (slotOf p n e l w) g f v .said ≡ factor h))
 
 -- Done or a factor is said where no number is given
 module _ (p n : ℤ) (e t a b g f v : List ℤ) where
@@ -350,12 +356,9 @@ module _ (p n : ℤ) (e t a b g f v : List ℤ) where
   by-factor : (l : ℕ) → gcd p n e t a b g f v .said ≡ factor l → gcdNumber p n e t a b g f v ≡ 0
   by-factor l d = answered-passed _ _ (gcdNumber p n e t a b g f v) (λ j q. factor-refused l j (sym d ∙ q))
 
-  gcd-described : gcd p n e t a b g f v .said ≡ done → Over p n e t (λ m s. GcdDescribed p n e m s a b (gcd p n e t a b g f v .words .gcd))
-  gcd-described d =
-      let z = by-done d in
-      let x = gcd-held p n e t a b g f v z d in
-      over p n e t (λ m s. GcdDescribed p n e m s a b (gcd p n e t a b g f v .words .gcd)) (gcd-tower p n e t a b g f v z)
-      (record { leading = x .leading; is-zero = x .is-zero; divisors = x .divisors })
+  gcd-described : gcd p n e t a b g f v .said ≡ done → Over p n e t (λ m s.
+      GcdHeld (Top p n e m s) (Polynomial p n e m s a) (Polynomial p n e m s b) (Polynomial p n e m s (gcd p n e t a b g f v .words .gcd)))
+  gcd-described d = let z = by-done d in over p n e t _ (gcd-tower p n e t a b g f v z) (gcd-held p n e t a b g f v z d)
 
   gcd-shows : (l : ℕ) → gcd p n e t a b g f v .said ≡ factor l → Over p n e t (λ m s. FactorDescribed p n e m s l (gcd p n e t a b g f v .words .factor))
   gcd-shows l d =
@@ -387,9 +390,10 @@ third-demand = record {
   shows = gcd-shows;
   inverse-shows = inverse-shows-factor;
   free = free-given;
-  accepted = λ p n e r s k l k-in l-in u w g f v g-in f-in room work. (let t = wordsOf p n e (r .modulus) s in
+  accepted = λ p n e r s k l k-in l-in u w g f v g-in f-in i j low-u low-w room work. (let t = wordsOf p n e (r .modulus) s in
       let τ = tower-says p n e t 0 (tower-passes p n e r s) in
-      let o = zeroOf p n e (τ .range .modulus) in
-      gcd-kind p n e t (slotOf p n e k u) (slotOf p n e l w) g f v
-      (gcd-passes p n e t τ k l k-in l-in u w g f v g-in f-in k l (coef-below o k u) (coef-below o l w) room work));
+      let one = T-prop (pOk p) (r .modulus) (τ .range .modulus) in
+      let low-u′ = subst (λ m. Below (zeroOf p n e m) i (coef (zeroOf p n e m) k u)) one low-u in
+      let low-w′ = subst (λ m. Below (zeroOf p n e m) j (coef (zeroOf p n e m) l w)) one low-w in
+      gcd-kind p n e t (slotOf p n e k u) (slotOf p n e l w) g f v (gcd-passes p n e t τ k l k-in l-in u w g f v g-in f-in i j low-u′ low-w′ room work));
 }

@@ -28,7 +28,7 @@ use Rattle.kernel.specs.DivisionMeaning.{monic-iff}
 use Rattle.kernel.specs.Divisions.{divisorDegree, monicRow, divisionNumber, division}
 use Rattle.kernel.specs.Meaning.{InRange, TowerHeld, ones}
 use Rattle.kernel.specs.Refusals.{refusal}
-use Rattle.kernel.specs.SlotAnswers.{le-iff, lt-iff, Means, answered, SlotLong, WorkLong, WorkShort, SlotsHeld, SlotsMeans, slots-means, Allowed, slot-held}
+use Rattle.kernel.specs.SlotAnswers.{le-iff, lt-iff, Means, said-means, SlotLong, WorkLong, WorkShort, SlotsHeld, SlotsMeans, slots-means, Allowed, slot-held}
 use Rattle.kernel.specs.SlotAnswers.{degree-low, slots-held}
 use Rattle.kernel.specs.SlotLaws.{held-below, held-low, slot-holds}
 use Rattle.kernel.specs.SlotMeaning.{PolynomialOf, slotOf, not-iff, form-iff}
@@ -104,7 +104,7 @@ module _ (p n : ℤ) (e t a b q v : List ℤ) where
   division-given = division-means .only
 
   pub division-answers : (j : ℕ) → (division p n e t a b q v .said ≡ refusal j) ↔ DivisionMeans p n e t a b q v j
-  division-answers = answered _ _ division-means
+  division-answers = said-means _ _ division-means
 
 -- over a tower, polynomials u and w of k and l coefficients, and any words q and v
 module _ (p n : ℤ) (e t : List ℤ) (τ : TowerHeld p n e t) (k l : ℕ) (k-in : Allowed n e k) (l-in : Allowed n e l) (u : PolynomialOf p n e k) (w : PolynomialOf p n e l)

@@ -1,6 +1,7 @@
 -- What a division leaves where no number is given: the quotient and the remainder, whole, in the slots q and a, and a work store that is cleared as far as it was
 -- needed. A and B are the coefficients that a and b held; Q and R those that q and a hold afterwards.
 --
+-- top-lead                        == the leading coefficient of what is not zero stands at its degree
 -- monic-iff                       == number 8 is kept away precisely where b is not zero and its leading coefficient is 1
 -- division-blind                  == "Contents of answer slots .. and work store are not tested.";  division-numbers == no number above 8 is given
 -- division-tower                  == where no number is given t is the words of exactly one tower, and p is in range;  division-ring == its topmost ring is
@@ -11,8 +12,9 @@
 -- remainder-below                 == R is zero from the degree of B on
 -- only-quotient, only-remainder   == no other polynomials are so
 -- division-work                   == the work store afterwards
--- DivisionSame                    == what two runs share whose q and work stores have the same lengths;  division-same == that they do
-use Prim.Native.Nat.{ℕ, zero, suc, _+_, _≤_, _<_}
+-- DivisionSame                    == what two runs share whose q and work stores have the same lengths;  division-two-runs == that they do
+use Prim.Native.Nat.{ℕ, zero, suc, _+_, _-_, _*_, _≤_, _<_}
+use native.Mathlib.Nat.{lt-irrefl}
 use native.Mathlib.Omega.{arith}
 use mathlib.Core.Path.{_≡_, refl, sym, ap, _∙_, fun-ext}
 use mathlib.Core.List.{List, [], _∷_}
@@ -27,7 +29,7 @@ use Rattle.algebra.specs.Series.{Series, SeriesRing}
 use Rattle.algebra.specs.Test.{branch-yes, both, both-l, both-r, le-or-lt}
 use Rattle.algebra.specs.Vec.{Vec, Below, coef, trunc, topped, below-mono, coef-below, coef-trunc}
 use Rattle.residue.specs.Word.{num}
-use Rattle.tower.specs.Form.{oneWords}
+use Rattle.tower.specs.Form.{seg, oneWords}
 use Rattle.tower.specs.Levels.{ring}
 use Rattle.tower.specs.Limits.{pOk, p-positive, degreesOf}
 use Rattle.tower.specs.Lists.{same-sound, same-eq}
@@ -38,8 +40,9 @@ use Rattle.kernel.specs.Refusals.{done, refusal, passed-of, ordered-numb
 use Rattle.kernel.specs.SlotLaws.{Tested, tested, ring-held, Written, held-below, held-few, held-one, slot-written, filled-holds, Cleared, cleared-words}
 use Rattle.kernel.specs.SlotLaws.{changed-said, changed-zero, changed-same, filled-same}
 use Rattle.kernel.specs.Slots.{quotientRoom, degreeCount, polynomialOf, coefficientsIn, filled, topRing, Changed}
-use Rattle.kernel.specs.Divisions.{divisorDegree, leadingWords, monicRow, divisionTable, divisionNumber, divisorOf, remainderOf, quotientOf}
+use Rattle.kernel.specs.Divisions.{divisorDegree, monicRow, divisionTable, divisionNumber, divisorOf, remainderOf, quotientOf}
 use Rattle.kernel.specs.Divisions.{remainderWords, quotientWords, DivisionWords, division}
+use Rattle.kernel.specs.Views.{topStart, topCount, topWords}
 
 -- the first d coefficients of f and the next above them
 topped-trunc : {A : Type 0} (d : ℕ) (f : ℕ → A) → topped d (trunc d f) (f d) ≡ trunc (suc d) f
@@ -51,18 +54,26 @@ crown-is : (R : CRing) (d : ℕ) (f : Series R) → f d ≡ R .𝟙 → Below (R
 crown-is R d f e b =
     ap (λ c. coef (R .𝟘) (suc d) (topped d (trunc d f) c)) (sym e) ∙ ap (coef (R .𝟘) (suc d)) (topped-trunc d f) ∙ fun-ext (coef-trunc (R .𝟘) (suc d) f b)
 
+-- the leading coefficient of what is not zero stands at its degree
+pub top-lead : (s : ℕ) (b : List ℤ) → 1 ≤ degreeCount b → topWords s b ≡ seg (suc (divisorDegree b * s)) s b
+top-lead s b some = at (degreeCount b) some
+  where
+    at : (k : ℕ) → 1 ≤ k → seg (topStart s k) (topCount s k) b ≡ seg (suc ((k - 1) * s)) s b
+    at zero l = absurd (lt-irrefl 0 l)
+    at (suc k) l = let q : k ≡ suc k - 1 = omega arith in ap (λ m. seg (suc (m * s)) s b) q
+
 -- number 8: over a tower, of a slot in form
 pub monic-iff : (p n : ℤ) (e t b : List ℤ) (r : InRange p n e) (f : T (formOk p n e b))
     → T (monicRow n e b .1 tt) ↔ ((1 ≤ degreeCount b) × (coefficientsIn p n e (r .modulus) b (divisorDegree b) ≡ topRing p n e t (r .modulus) .𝟙))
 monic-iff p n e t b r f = (
   λ h. (let some = leb→le 1 (degreeCount b) (both-l (leb 1 (degreeCount b)) _ h) in
-      (some, one some .0 (same-sound (leadingWords (sizeOf n e) b) (oneWords (degreesOf e) (num n)) (both-r (leb 1 (degreeCount b)) _ h)))),
+      (some, one some .0 (same-sound (topWords (sizeOf n e) b) (oneWords (degreesOf e) (num n)) (both-r (leb 1 (degreeCount b)) _ h)))),
   λ h. both (leb 1 (degreeCount b)) _ (le→leb 1 (degreeCount b) (h .0)) (same-eq (one (h .0) .1 (h .1))),
 )
   where
     one : 1 ≤ degreeCount b
-        → (leadingWords (sizeOf n e) b ≡ oneWords (degreesOf e) (num n)) ↔ (coefficientsIn p n e (r .modulus) b (divisorDegree b) ≡ topRing p n e t (r .modulus) .𝟙)
-    one some = held-one p n e t b r f (divisorDegree b) (omega (arith, held-few p n e (r .modulus) b f))
+        → (topWords (sizeOf n e) b ≡ oneWords (degreesOf e) (num n)) ↔ (coefficientsIn p n e (r .modulus) b (divisorDegree b) ≡ topRing p n e t (r .modulus) .𝟙)
+    one some = rw (top-lead (sizeOf n e) b some) (held-one p n e t b r f (divisorDegree b) (omega (arith, held-few p n e (r .modulus) b f)))
 
 -- the number looks at the lengths of q and v only
 pub division-blind : (p n : ℤ) (e t a b q q′ v v′ : List ℤ) → length q ≡ length q′ → length v ≡ length v′
@@ -223,8 +234,8 @@ module _ (p n : ℤ) (e t a b q q′ v v′ : List ℤ) where
     -- the work words that are needed, after Done
     pub work : run .said ≡ done → (k : ℕ) → k < productWork (degreesOf e) (num n) → getD (run .words .work) k (pos 0) ≡ getD (run′ .words .work) k (pos 0)
 
-  pub division-same : length q ≡ length q′ → length v ≡ length v′ → DivisionSame
-  division-same h l = record {
+  pub division-two-runs : length q ≡ length q′ → length v ≡ length v′ → DivisionSame
+  division-two-runs h l = record {
     answer = changed-said (divisionNumber p n e t a b q v) _ _ ∙ ap refusal number ∙ sym (changed-said (divisionNumber p n e t a b q′ v′) _ _);
     remainder = changed-same (λ (w : DivisionWords). w .remainder) _ _ _ _ _ _ number refl refl;
     quotient = λ d.

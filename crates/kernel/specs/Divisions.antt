@@ -1,13 +1,13 @@
 -- Division by a monic polynomial over the tower's top ring: the remainder replaces a, the quotient goes into a slot q. The work store v is cleared as far as it
 -- is needed.
 --
--- divisorDegree, leadingWords   == the divisor's degree, and the words of its leading coefficient;  monicWords, monicRow == the test that these are those of 1
+-- divisorDegree                 == the divisor's degree;  monicWords, monicRow == the test that the words of its leading coefficient are those of 1
 -- divisionTable, divisionNumber == the tests in the order of their numbers, and the number that they give
 -- divisorOf                     == the divisor's coefficients under its leading 1
 -- remainderOf, remainderWords   == the remainder's coefficients, and the words of a's slot after Done
 -- quotientOf, quotientWords     == the quotient's, and the words of q's slot
 -- division                      == what the call gives, and the words of a, of q and of the work store afterwards
-use Prim.Native.Nat.{ℕ, suc, _-_, _*_}
+use Prim.Native.Nat.{ℕ, _-_}
 use mathlib.Core.Bool.{Bool, _&&_}
 use mathlib.Core.List.{List, [], _∷_, _++_}
 use lib.IntN.{ℤ}
@@ -16,25 +16,22 @@ use Rattle.algebra.specs.Divide.{quotient, remainder}
 use Rattle.algebra.specs.Test.{branch}
 use Rattle.algebra.specs.Vec.{Vec, coef, trunc}
 use Rattle.residue.specs.Word.{num}
-use Rattle.tower.specs.Form.{seg, same, oneWords}
+use Rattle.tower.specs.Form.{same, oneWords}
 use Rattle.tower.specs.Levels.{El}
 use Rattle.tower.specs.Limits.{pOk, degreesOf}
 use Rattle.tower.specs.Work.{productWork}
 use Rattle.kernel.specs.Refusals.{not-monic, Table, first}
 use Rattle.kernel.specs.Calls.{sizeOf, coefficientsOf}
 use Rattle.kernel.specs.Slots.{quotientRoom, degreeCount, polynomialOf, coefficientsIn, slotsTable, topRing, filled, cleared, Changed, changedBy}
+use Rattle.kernel.specs.Views.{topWords}
 
 -- the degree of a divisor that is not zero
 abbrev pub divisorDegree : List ℤ → ℕ
 divisorDegree b = degreeCount b - 1
 
--- the s words of the coefficient there
-abbrev pub leadingWords : ℕ → List ℤ → List ℤ
-leadingWords s b = seg (suc (divisorDegree b * s)) s b
-
 -- b is not zero, and its leading coefficient is 1: of level i over the degrees d, and of s words
 abbrev pub monicWords : List ℕ → ℕ → ℕ → List ℤ → Bool
-monicWords d i s b = leb 1 (degreeCount b) && same (leadingWords s b) (oneWords d i)
+monicWords d i s b = leb 1 (degreeCount b) && same (topWords s b) (oneWords d i)
 
 abbrev pub monicRow : ℤ → List ℤ → List ℤ → ℕ × (Unit {0} → Bool)
 monicRow n e b = (not-monic, λ _. monicWords (degreesOf e) (num n) (sizeOf n e) b)

@@ -14,13 +14,13 @@ use native.Mathlib.Nat.{lt-irrefl, mod-lt, mod-eq-of-lt, mod-self, mod-add-mod, 
 use native.Mathlib.Omega.{arith}
 use lib.IntN.{ℤ, pos, negsuc}
 use lib.Signed.{ltZ, leZ}
-use lib.Dec.{T, not-T, ltb, leb→le, le→leb, ltb→lt, nltb→le}
+use lib.Dec.{T, T-not, not-T, ltb, leb→le, le→leb, ltb→lt, nltb→le}
 use Rattle.algebra.specs.Test.{branch, branch-yes}
 use Rattle.algebra.specs.Zmod.{Residue, toZ, mul-mod-l, mul-mod-r}
 use Rattle.euclid.specs.Answer.{Answer, done as done-with, shown, long}
 use Rattle.euclid.specs.Number.{Row, row, row-ok, answer, inverse₀}
 use Rattle.residue.specs.Word.{num, modZ}
-use Rattle.tower.specs.Limits.{pOk, p-positive}
+use Rattle.tower.specs.Limits.{pOk, p-positive, Between, modulus-range}
 use Rattle.kernel.specs.Refusals.{done, refusal, refusal-inj, Numbered, passed-of, first-of, Applies, first-applies, first-is}
 use Rattle.kernel.specs.Calls.{inverseOf, isGiven, timesGiven, fractionTable, fractionNumber, fractionResidue, fractionBy, fraction}
 
@@ -158,12 +158,12 @@ module _ (p e : ℤ) where
   )
 
   -- 1: p is out of range
-  pub fraction-one : (fractionNumber p e ≡ 1) ↔ T (not (pOk p))
+  pub fraction-one : (fractionNumber p e ≡ 1) ↔ (¬ Between 2 2147483647 p)
   unfolding fractionNumber
-  fraction-one = (λ h. go (first-applies (fractionTable p e) 0 h), λ m. first-is (fractionTable p e) 1 (inl (m, refl)))
+  fraction-one = (λ h. go (first-applies (fractionTable p e) 0 h), λ m. first-is (fractionTable p e) 1 (inl (not-T (pOk p) (λ t. m (modulus-range p .0 t)), refl)))
     where
-      go : Applies (fractionTable p e) 1 → T (not (pOk p))
-      go (inl x) = x .0
+      go : Applies (fractionTable p e) 1 → ¬ Between 2 2147483647 p
+      go (inl x) = λ m. T-not (pOk p) (x .0) (modulus-range p .1 m)
       go (inr (m, inl x)) = absurd (lt-irrefl 0 (omega (arith, x .1)))
       go (inr (m, inr (q, inl x))) = absurd (lt-irrefl 0 (omega (arith, x .1)))
       go (inr (m, inr (q, inr (g, none)))) = absurd none
@@ -240,7 +240,7 @@ module _ (p e : ℤ) where
 
 -- for each number what it says
 abbrev pub FractionMeans : ℤ → ℤ → ℕ → Type 0
-FractionMeans p e k = ((k ≡ 0) × Coprime p e) ⊎ (((k ≡ 1) × T (not (pOk p))) ⊎ ((k ≡ 10) × NoResidue p e))
+FractionMeans p e k = ((k ≡ 0) × Coprime p e) ⊎ (((k ≡ 1) × (¬ Between 2 2147483647 p)) ⊎ ((k ≡ 10) × NoResidue p e))
 
 module _ (p e : ℤ) where
   pub fraction-says : (j : ℕ) → fractionNumber p e ≡ j → FractionMeans p e j

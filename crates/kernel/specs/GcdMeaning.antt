@@ -5,11 +5,12 @@
 -- gcd-blind         == "Contents of answer slots, factor buffer and work store are not tested."
 -- gcd-tower         == where no number is given t is the words of exactly one tower, and p is in range;  gcd-ring == its topmost ring is computed in
 -- gcd-kind          == Done or a factor is said;  gcd-done, gcd-factor == each precisely where the sequence gives a GCD, shows a factor
--- GcdLeft, gcd-left == what is left with a GCD;  GcdHeld, gcd-held == demand 3's description of what g holds then;  gcd-only == nothing else is so described
+-- GcdHeld           == demand 3's description of a GCD
+-- GcdLeft, gcd-left == what is left with a GCD;  gcd-held == what g holds then is so described;  gcd-only == nothing else is
 -- GcdShown, gcd-shown == what is left with a factor: demand 3's
 -- gcd-refused       == with a number every lent word is as found
 -- gcd-free          == a modulus and tower without factors get their GCD
--- GcdSame           == what two runs share whose g, factor buffers and work stores have the same lengths;  gcd-same == that they do
+-- GcdSame           == what two runs share whose g, factor buffers and work stores have the same lengths;  gcd-two-runs == that they do
 use Prim.Native.Nat.{ℕ, suc, _-_, _<_, _≤_}
 use native.Mathlib.Omega.{arith}
 use mathlib.Core.Path.{_≡_, refl, sym, ap, _∙_, subst}
@@ -59,6 +60,14 @@ gcd-blind p n e t a b g g′ f f′ v v′ h k l = rw (h, k, l)
 pub gcd-refused : (p n : ℤ) (e t a b g f v : List ℤ) (j : ℕ) → gcdNumber p n e t a b g f v ≡ suc j
     → gcd p n e t a b g f v ≡ record { said = refused (suc j); words = record { gcd = g; factor = f; work = v } }
 gcd-refused p n e t a b g f v j h = answered-old _ _ (gcdNumber p n e t a b g f v) j h
+
+-- ---- G is a GCD of A and B, by demand 3
+pub record GcdHeld (R : CRing) (A B G : P R) : Type 0 where
+  -- "its leading coefficient is 1 unless a and b are both zero, and then it is zero"
+  pub leading : ¬ ((A ≡ PolyRing R .𝟘) × (B ≡ PolyRing R .𝟘)) → Monic R (G .0)
+  pub is-zero : (G ≡ PolyRing R .𝟘) ↔ ((A ≡ PolyRing R .𝟘) × (B ≡ PolyRing R .𝟘))
+  -- "a polynomial over that tower divides it precisely when it divides both a and b"
+  pub divisors : (q : P R) → Dvd (PolyRing R) q G ↔ (Dvd (PolyRing R) q A × Dvd (PolyRing R) q B)
 
 -- ---- zero, or a monic polynomial
 module _ (R : CRing) where
@@ -177,14 +186,7 @@ module _ (p n : ℤ) (e t a b g f v : List ℤ) (h : gcdNumber p n e t a b g f v
       }
 
   -- ---- demand 3 of the polynomial that g holds
-  pub record GcdHeld : Type 0 where
-    -- "its leading coefficient is 1 unless a and b are both zero, and then it is zero"
-    pub leading : ¬ ((A ≡ PolyRing gcdRing .𝟘) × (B ≡ PolyRing gcdRing .𝟘)) → Monic gcdRing (G .0)
-    pub is-zero : (G ≡ PolyRing gcdRing .𝟘) ↔ ((A ≡ PolyRing gcdRing .𝟘) × (B ≡ PolyRing gcdRing .𝟘))
-    -- "a polynomial over that tower divides it precisely when it divides both a and b"
-    pub divisors : (q : P gcdRing) → Dvd (PolyRing gcdRing) q G ↔ (Dvd (PolyRing gcdRing) q A × Dvd (PolyRing gcdRing) q B)
-
-  pub gcd-held : gcd p n e t a b g f v .said ≡ done → GcdHeld
+  pub gcd-held : gcd p n e t a b g f v .said ≡ done → GcdHeld gcdRing A B G
   gcd-held d =
       let m = gcd-done .0 d .0 in
       let left = gcd-left m (gcd-done .0 d .1) in
@@ -233,8 +235,8 @@ module _ (p n : ℤ) (e t a b g g′ f f′ v v′ : List ℤ) where
       RunsSame (λ (w : GcdWords). w .gcd) (λ w. w .factor) (λ w. w .work) (gcdNeeded n e a b) g g′ f f′
       (gcd p n e t a b g f v) (gcd p n e t a b g′ f′ v′)
 
-  pub gcd-same : length g ≡ length g′ → length f ≡ length f′ → length v ≡ length v′ → GcdSame
-  gcd-same h k l =
+  pub gcd-two-runs : length g ≡ length g′ → length f ≡ length f′ → length v ≡ length v′ → GcdSame
+  gcd-two-runs h k l =
       runs-same _ _ _ _ _ _ _ _ (gcdNumber p n e t a b g f v) (gcdNumber p n e t a b g′ f′ v′) _ _ _ _ number
       (λ z. (let m = gcd-says p n e t a b g f v 0 z .slots .tower .range .modulus in
       rw (gcd-words p n e t a b g f v m, gcd-words p n e t a b g′ f′ v′ m)

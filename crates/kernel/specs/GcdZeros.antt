@@ -1,7 +1,6 @@
 -- C10 for every input: "Both zero: the zero slot. One zero: the other made monic, or the factor its leading coefficient shows."
 --
 -- zeroSlotOf            == the zero slot, as long as another slot
--- inverted              == what the inverse of an element gives
 -- MadeMonic, ShowsIt    == that the call leaves x made monic; that it leaves the factor which the leading coefficient of x shows
 -- gcd-both-zero         == both zero;  gcd-a-zero, gcd-b-zero == one zero: one of the two, of the other polynomial
 use Prim.Native.Nat.{ℕ, suc}
@@ -12,7 +11,6 @@ use mathlib.Core.List.{List, _∷_}
 use lib.IntN.{ℤ, negsuc}
 use lib.Dec.{T}
 use Rattle.algebra.specs.Shape.{Shape, null, lead, strip, strip-null, strip-lead}
-use Rattle.algebra.specs.Test.{both-l, both-r, branch-yes}
 use Rattle.algebra.specs.UnitDivide.{scaleᵛ, made-monic}
 use Rattle.algebra.specs.Vec.{Vec, coef, trunc, zeroᵛ, topped, init, last, coef-trunc, coef-inj, coef-zero, topped-top, topped-split}
 use Rattle.residue.specs.Word.{num}
@@ -22,25 +20,25 @@ use Rattle.tower.specs.Limits.{pOk, p-positive, degreesOf}
 use Rattle.tower.specs.Unique.{slotCoding}
 use Rattle.tower.specs.Writing.{slot}
 use Rattle.euclid.specs.Answer.{Answer, done as done-with, shown, bind, Holds}
-use Rattle.euclid.specs.Gcd.{Made, made, make, make-from, gcd-right-zero, gcd-left-zero, nothing, gcd as gcd-of}
+use Rattle.euclid.specs.Gcd.{Made, made, make, make-from, gcd-right-zero, gcd-left-zero, nothing}
 use Rattle.euclid.specs.Level.{Level}
 use Rattle.euclid.specs.Sequence.{Carry}
 use Rattle.euclid.specs.Shown.{shownWords}
-use Rattle.euclid.specs.Towers.{Shown, Right, level-of, inv, good}
-use Rattle.kernel.specs.Answered.{answered, factorBuffer, towerIn, levelOf}
+use Rattle.euclid.specs.Towers.{Shown, Right, level-of, good}
+use Rattle.kernel.specs.Answered.{factorBuffer, towerIn, levelOf}
 use Rattle.kernel.specs.Calls.{coefficientsOf, formOk}
-use Rattle.kernel.specs.Gcds.{gcdTable, gcdNumber, gcdNeeded, gcdBy, gcdWords, gcd}
-use Rattle.kernel.specs.Refusals.{done, factor, Passed, passed-of, ordered-numbered}
+use Rattle.kernel.specs.GcdAnswers.{gcdAnswer, gcd-sequence}
+use Rattle.kernel.specs.GcdMeaning.{gcd-passed, gcd-modulus}
+use Rattle.kernel.specs.Gcds.{gcdNumber, gcdNeeded, gcdBy, gcd}
+use Rattle.kernel.specs.InverseAnswers.{inverted}
+use Rattle.kernel.specs.Refusals.{done, factor}
 use Rattle.kernel.specs.SlotLaws.{held-below, held-top}
+use Rattle.kernel.specs.SlotMeaning.{form-iff}
 use Rattle.kernel.specs.Slots.{degreeCount, polynomialOf, coefficientsIn, topRing, filled, cleared}
 
 -- the zero slot, as long as g
 abbrev pub zeroSlotOf : (n : ℤ) (e g : List ℤ) → List ℤ
 zeroSlotOf n e g = negsuc 0 ∷ copies (coefficientsOf n e g) (zeroWords (degreesOf e) (num n))
-
--- what the inverse of an element gives
-abbrev pub inverted : (p n : ℤ) (e t : List ℤ) → T (pOk p) → El (num p) (degreesOf e) (num n) → Answer (Shown (num p) (degreesOf e) (num n)) (El (num p) (degreesOf e) (num n))
-inverted p n e t h c = inv (num p) (p-positive p h) (degreesOf e) (num n) (towerIn p n e t h) c
 
 -- x, which is a or b, of degree d
 module _ (p n : ℤ) (e t a b g f v x : List ℤ) (d : ℕ) where
@@ -84,24 +82,14 @@ filled-zero p n e g h =
 
 -- ---- where no number is given
 module _ (p n : ℤ) (e t a b g f v : List ℤ) (passes : gcdNumber p n e t a b g f v ≡ 0) where
-  record Tests : Type 0 where
-    modulus : T (pOk p)
-    form-a : T (formOk p n e a)
-    form-b : T (formOk p n e b)
-
-  tests : Tests
-  unfolding gcdNumber
-  tests = told (passed-of (gcdTable p n e t a b g f v) (ordered-numbered 1 (gcdTable p n e t a b g f v) (omega arith) tt) passes)
-    where
-      told : Passed (gcdTable p n e t a b g f v) → Tests
-      told (modulus, (levels, (degrees, (few, (tower, (lengths, (forms, rest))))))) = record {
-        modulus = modulus;
-        form-a = both-l (formOk p n e a) _ forms;
-        form-b = both-r (formOk p n e a) _ forms;
-      }
-
   abbrev m : T (pOk p)
-  m = tests .modulus
+  m = gcd-modulus p n e t a b g f v passes
+
+  form-a : T (formOk p n e a)
+  form-a = form-iff p n e m a .1 (gcd-passed p n e t a b g f v passes .slots .held-a)
+
+  form-b : T (formOk p n e b)
+  form-b = form-iff p n e m b .1 (gcd-passed p n e t a b g f v passes .slots .held-b)
 
   abbrev L : Level
   L = levelOf p n e t m
@@ -121,20 +109,6 @@ module _ (p n : ℤ) (e t a b g f v : List ℤ) (passes : gcdNumber p n e t a b 
   abbrev Sequence : Type 0
   Sequence = Answer (Shown (num p) (degreesOf e) (num n)) (Made (El (num p) (degreesOf e) (num n)) (Unit {0}))
 
-  abbrev sequence : Sequence
-  sequence = gcd-of L (coefficientsOf n e a) (held a) (coefficientsOf n e b) (held b)
-
-  -- the call gives what the sequence gives
-  runs : gcd p n e t a b g f v ≡ gcdBy p n e t a b g f v m sequence
-  unfolding gcdWords
-  runs =
-      ap (λ k. answered k (gcdWords p n e t a b g f v) (record { gcd = g; factor = f; work = v })) passes
-      ∙ branch-yes (pOk p)
-      (λ h. (let k = coefficientsOf n e a in
-      let l = coefficientsOf n e b in
-      gcdBy p n e t a b g f v h (gcd-of (levelOf p n e t h) k (polynomialOf p n e h k a) l (polynomialOf p n e h l b))))
-      _ m
-
   -- ---- a polynomial that is zero
   no-shape : (x : List ℤ) → T (formOk p n e x) → degreeCount x ≡ 0 → shape x ≡ null
   no-shape x form none = strip-null (L .zero-test) (coefficientsOf n e x) (held x) (λ j. held-below p n e m x form j (omega (arith, none)))
@@ -143,10 +117,10 @@ module _ (p n : ℤ) (e t a b g f v : List ℤ) (passes : gcdNumber p n e t a b 
       → gcd p n e t a b g f v ≡ record { said = done; words = record { gcd = zeroSlotOf n e g; factor = f; work = cleared (gcdNeeded n e a b) v } }
   unfolding make
   gcd-both-zero none-a none-b =
-      runs
+      gcd-sequence p n e t a b g f v passes m
       ∙ ap (gcdBy p n e t a b g f v m)
-      (gcd-right-zero L C (coefficientsOf n e a) (held a) tt (coefficientsOf n e b) (held b) tt (no-shape b (tests .form-b) none-b)
-      ∙ ap (make-from L C tt) (no-shape a (tests .form-a) none-a))
+      (gcd-right-zero L C (coefficientsOf n e a) (held a) tt (coefficientsOf n e b) (held b) tt (no-shape b form-b none-b)
+      ∙ ap (make-from L C tt) (no-shape a form-a none-a))
       ∙ ap (λ w. record { said = done; words = record { gcd = w; factor = f; work = cleared (gcdNeeded n e a b) v } }) (filled-zero p n e g m)
 
   -- ---- a polynomial x that is not zero, of degree d
@@ -179,7 +153,7 @@ module _ (p n : ℤ) (e t a b g f v : List ℤ) (passes : gcdNumber p n e t a b 
     made-of = ap (make-from L C tt) shape-of
 
     -- where the sequence does nothing but make x monic
-    by-make : sequence ≡ make L C (coefficientsOf n e x) (held x) tt → MadeMonic p n e t a b g f v x d ⊎ ShowsIt p n e t a b g f v x d
+    by-make : gcdAnswer p n e t a b g f v m ≡ make L C (coefficientsOf n e x) (held x) tt → MadeMonic p n e t a b g f v x d ⊎ ShowsIt p n e t a b g f v x d
     by-make only =
         go (L .inv (all d)) refl (good (num p) (p-positive p m) (degreesOf e) (num n) (towerIn p n e t m) (all d) not-zero)
       where
@@ -187,7 +161,7 @@ module _ (p n : ℤ) (e t a b g f v : List ℤ) (passes : gcdNumber p n e t a b 
         monic r = bind r (λ i. done-with (made d (scaleᵛ (L .ring) d i under) tt))
 
         leaves : (r : Answer (L .Shown) (L .ring .Car)) → L .inv (all d) ≡ r → gcd p n e t a b g f v ≡ gcdBy p n e t a b g f v m (monic r)
-        leaves r q = runs ∙ ap (gcdBy p n e t a b g f v m) (only ∙ made-of ∙ ap monic q)
+        leaves r q = gcd-sequence p n e t a b g f v passes m ∙ ap (gcdBy p n e t a b g f v m) (only ∙ made-of ∙ ap monic q)
 
         go : (r : Answer (L .Shown) (L .ring .Car)) → L .inv (all d) ≡ r → Holds (L .Right) (λ i. L .ring ._⊗_ i (all d) ≡ L .ring .𝟙) r
             → MadeMonic p n e t a b g f v x d ⊎ ShowsIt p n e t a b g f v x d
@@ -206,12 +180,12 @@ module _ (p n : ℤ) (e t a b g f v : List ℤ) (passes : gcdNumber p n e t a b 
   pub gcd-a-zero : (d : ℕ) → degreeCount a ≡ 0 → degreeCount b ≡ suc d
       → MadeMonic p n e t a b g f v b d ⊎ ShowsIt p n e t a b g f v b d
   gcd-a-zero d none degree =
-      by-make b (tests .form-b) d degree
-      (gcd-left-zero L C (coefficientsOf n e a) (held a) tt (coefficientsOf n e b) (held b) tt d _ _ (no-shape a (tests .form-a) none)
-      (shape-of b (tests .form-b) d degree))
+      by-make b form-b d degree
+      (gcd-left-zero L C (coefficientsOf n e a) (held a) tt (coefficientsOf n e b) (held b) tt d _ _ (no-shape a form-a none)
+      (shape-of b form-b d degree))
 
   pub gcd-b-zero : (d : ℕ) → degreeCount a ≡ suc d → degreeCount b ≡ 0
       → MadeMonic p n e t a b g f v a d ⊎ ShowsIt p n e t a b g f v a d
   gcd-b-zero d degree none =
-      by-make a (tests .form-a) d degree
-      (gcd-right-zero L C (coefficientsOf n e a) (held a) tt (coefficientsOf n e b) (held b) tt (no-shape b (tests .form-b) none))
+      by-make a form-a d degree
+      (gcd-right-zero L C (coefficientsOf n e a) (held a) tt (coefficientsOf n e b) (held b) tt (no-shape b form-b none))

@@ -1,7 +1,7 @@
 -- What the numbers 0 to 5, 7 and 9 say of an inverse, and that number 11 is never given.
 --
 -- ElementLong        == "element and factor buffer: exactly S_N";  element-iff == it is what the test of a length says
--- elementWords       == the words of an element;  element-is == the element that is read is the one whose words are given
+-- elementWords       == the words of an element;  element-is == the element that is read is the one whose words are given;  inverted == what its inverse gives
 -- InverseMeans       == for each number what it says; a number that is not used says ⊥
 -- inverse-says       == a number that is given comes under its condition;  inverse-given == and under its condition it is given
 -- inverse-sequence   == what is given where no number applies: the sequence's answer;  inverse-ends, inverse-unrefused == which is not number 11
@@ -49,6 +49,10 @@ ElementOf p n e = El (num p) (degreesOf e) (num n)
 
 abbrev pub elementWords : (p n : ℤ) (e : List ℤ) → ElementOf p n e → List ℤ
 elementWords p n e = write (num p) (degreesOf e) (num n)
+
+-- what the sequence on an element gives
+abbrev pub inverted : (p n : ℤ) (e t : List ℤ) → T (pOk p) → ElementOf p n e → Answer (Shown (num p) (degreesOf e) (num n)) (ElementOf p n e)
+inverted p n e t h = inv (num p) (p-positive p h) (degreesOf e) (num n) (towerIn p n e t h)
 
 abbrev pub zeroOf : (p n : ℤ) (e : List ℤ) → T (pOk p) → ElementOf p n e
 zeroOf p n e h = group (num p) (p-positive p h) (degreesOf e) (num n) .𝟘
@@ -209,7 +213,7 @@ module _ (p n : ℤ) (e t c r f v : List ℤ) where
 
   -- ---- where no number applies, the sequence's answer
   abbrev pub inverseAnswer : T (pOk p) → Answer (Shown (num p) (degreesOf e) (num n)) (ElementOf p n e)
-  inverseAnswer m = inv (num p) (p-positive p m) (degreesOf e) (num n) (towerIn p n e t m) (elementOf p n e c m)
+  inverseAnswer m = inverted p n e t m (elementOf p n e c m)
 
   pub inverse-words : (m : T (pOk p)) → inverseWords p n e t c r f v ≡ inverseBy p n e t r f v m (inverseAnswer m)
   unfolding inverseWords

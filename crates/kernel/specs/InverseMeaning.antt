@@ -8,7 +8,7 @@
 -- InverseLeft, inverse-left   == what is left with an inverse: u · C = 1;  InverseShown, inverse-shown == what is left with a factor: demand 3's
 -- inverse-refused      == with a number every lent word is as found
 -- inverse-free         == a modulus and tower without factors get the inverse of every element that is not zero
--- InverseSame          == what two runs share whose r, factor buffers and work stores have the same lengths;  inverse-same == that they do
+-- InverseSame          == what two runs share whose r, factor buffers and work stores have the same lengths;  inverse-two-runs == that they do
 use Prim.Native.Nat.{ℕ, suc, _<_}
 use mathlib.Core.Path.{_≡_, refl, sym, ap, _∙_}
 use mathlib.Core.Logic.{_⊎_, _↔_}
@@ -145,8 +145,8 @@ module _ (p n : ℤ) (e t c r f v : List ℤ) (h : inverseNumber p n e t c r f v
   -- ---- "a modulus and tower without such factors"
   pub inverse-free : Free (num p) (p-positive p inverse-modulus) (degreesOf e) (num n) (inverse-tower .held .this) → inverse p n e t c r f v .said ≡ done
   inverse-free free =
-      let given =
-      inverse-of-free (num p) (p-positive p inverse-modulus) (degreesOf e) (num n) (towerIn p n e t inverse-modulus) (rw (tower-is p n e t inverse-tower) free) C (inverse-element .1) in
+      let here : Free (num p) (p-positive p inverse-modulus) (degreesOf e) (num n) (towerIn p n e t inverse-modulus) = rw (tower-is p n e t inverse-tower) free in
+      let given = inverse-of-free (num p) (p-positive p inverse-modulus) (degreesOf e) (num n) (towerIn p n e t inverse-modulus) here C (inverse-element .1) in
       inverse-done .1 (given .0, given .1)
 
 -- ---- "The entry contents of the work store change no answer and no other word."; nor do those of r and f: two runs, with words of the same lengths
@@ -156,8 +156,8 @@ module _ (p n : ℤ) (e t c r r′ f f′ v v′ : List ℤ) where
       RunsSame (λ (w : InverseWords). w .inverse) (λ w. w .factor) (λ w. w .work) (inverseWork (degreesOf e) (num n)) r r′ f f′
       (inverse p n e t c r f v) (inverse p n e t c r′ f′ v′)
 
-  pub inverse-same : length r ≡ length r′ → length f ≡ length f′ → length v ≡ length v′ → InverseSame
-  inverse-same h k l =
+  pub inverse-two-runs : length r ≡ length r′ → length f ≡ length f′ → length v ≡ length v′ → InverseSame
+  inverse-two-runs h k l =
       runs-same _ _ _ _ _ _ _ _ (inverseNumber p n e t c r f v) (inverseNumber p n e t c r′ f′ v′) _ _ _ _ number
       (λ z. (let held = inverse-says p n e t c r f v 0 z in
       let m = held .element .tower .range .modulus in

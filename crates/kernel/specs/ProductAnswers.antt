@@ -23,7 +23,7 @@ use Rattle.kernel.specs.Calls.{coefficientsOf}
 use Rattle.kernel.specs.Meaning.{TowerHeld}
 use Rattle.kernel.specs.Products.{productNumber, product}
 use Rattle.kernel.specs.Refusals.{refusal}
-use Rattle.kernel.specs.SlotAnswers.{le-iff, lt-iff, Means, answered, SlotLong, WorkLong, WorkShort, SlotsMeans, slots-means, Allowed, degree-low, slots-held}
+use Rattle.kernel.specs.SlotAnswers.{le-iff, lt-iff, Means, said-means, SlotLong, WorkLong, WorkShort, SlotsMeans, slots-means, Allowed, degree-low, slots-held}
 use Rattle.kernel.specs.SlotMeaning.{PolynomialOf, slotOf}
 use Rattle.kernel.specs.Slots.{degreeCount, productRoom}
 
@@ -52,7 +52,7 @@ module _ (p n : ℤ) (e t a b c v : List ℤ) where
   product-given = product-means .only
 
   pub product-answers : (j : ℕ) → (product p n e t a b c v .said ≡ refusal j) ↔ ProductMeans p n e t a b c v j
-  product-answers = answered _ _ product-means
+  product-answers = said-means _ _ product-means
 
 -- less is needed for lower degrees
 room-low : (i j k l : ℕ) → i ≤ k → j ≤ l → productRoom i j ≤ productRoom k l

@@ -5,7 +5,7 @@
 -- product-words        == c's slot afterwards is filled with the product;  product-written == the whole of it, in form
 -- product-coefficients == the coefficient that it holds at every place is that of a times b
 -- product-work         == the work store afterwards
--- ProductSame          == what two runs share whose c and work stores have the same lengths;  product-same == that they do
+-- ProductSame          == what two runs share whose c and work stores have the same lengths;  product-two-runs == that they do
 use Prim.Native.Nat.{ℕ, zero, suc, _≤_, _<_}
 use native.Mathlib.Omega.{arith}
 use mathlib.Core.Path.{_≡_, sym, ap, _∙_}
@@ -107,8 +107,8 @@ module _ (p n : ℤ) (e t a b c c′ v v′ : List ℤ) where
     -- the work words that are needed, after Done
     pub work : run .said ≡ done → (k : ℕ) → k < productWork (degreesOf e) (num n) → getD (run .words .work) k (pos 0) ≡ getD (run′ .words .work) k (pos 0)
 
-  pub product-same : length c ≡ length c′ → length v ≡ length v′ → ProductSame
-  product-same h k = record {
+  pub product-two-runs : length c ≡ length c′ → length v ≡ length v′ → ProductSame
+  product-two-runs h k = record {
     answer = changed-said (productNumber p n e t a b c v) _ _ ∙ ap refusal number ∙ sym (changed-said (productNumber p n e t a b c′ v′) _ _);
     words = λ d.
         product-words p n e t a b c v (zero-of d)

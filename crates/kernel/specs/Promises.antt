@@ -3,8 +3,7 @@
 --
 -- TowerChecked, SlotChecked, SizesGiven, FractionGiven, LeadingShown, SumGiven, ProductGiven, DivisionGiven, InverseGiven, GcdGiven == the promises
 -- .. -determined == two results that a promise allows are equal
--- in-order == the tests of each call stand in the order of their numbers;  numbers-used == those of the leading view, sum,
--- product, division, inverse and GCD
+-- in-order == the tests of each call stand in the order of their numbers;  numbers-used == which these are
 use Prim.Native.Nat.{ℕ}
 use mathlib.Core.Path.{_≡_, refl, sym, _∙_}
 use mathlib.Core.Bool.{Bool}
@@ -98,17 +97,17 @@ pub division-determined : (p n : ℤ) (e t a b q v : List ℤ) (r s : Answer) (a
 division-determined p n e t a b q v r s a₁ a₂ q₁ q₂ v₁ v₂ h k =
     (said-inj r s (h .answer ∙ sym (k .answer)), h .remainder ∙ sym (k .remainder), h .quotient ∙ sym (k .quotient), h .work ∙ sym (k .work))
 
--- inverse: the answer, and the words of r, of the factor buffer and of the work store afterwards
-pub record InverseGiven (p n : ℤ) (e t c r f v : List ℤ) (a : Answer) (r′ f′ v′ : List ℤ) : Type 0 where
-  pub answer : said a ≡ inverse p n e t c r f v .said
-  pub words : r′ ≡ inverse p n e t c r f v .words .inverse
-  pub factor : f′ ≡ inverse p n e t c r f v .words .factor
-  pub work : v′ ≡ inverse p n e t c r f v .words .work
+-- inverse: the answer, and the words of u, of the factor buffer and of the work store afterwards
+pub record InverseGiven (p n : ℤ) (e t c u f v : List ℤ) (r : Answer) (u′ f′ v′ : List ℤ) : Type 0 where
+  pub answer : said r ≡ inverse p n e t c u f v .said
+  pub words : u′ ≡ inverse p n e t c u f v .words .inverse
+  pub factor : f′ ≡ inverse p n e t c u f v .words .factor
+  pub work : v′ ≡ inverse p n e t c u f v .words .work
 
-pub inverse-determined : (p n : ℤ) (e t c r f v : List ℤ) (a b : Answer) (r₁ r₂ f₁ f₂ v₁ v₂ : List ℤ)
-    → InverseGiven p n e t c r f v a r₁ f₁ v₁ → InverseGiven p n e t c r f v b r₂ f₂ v₂ → (a ≡ b) × (r₁ ≡ r₂) × (f₁ ≡ f₂) × (v₁ ≡ v₂)
-inverse-determined p n e t c r f v a b r₁ r₂ f₁ f₂ v₁ v₂ h k =
-    (said-inj a b (h .answer ∙ sym (k .answer)), h .words ∙ sym (k .words), h .factor ∙ sym (k .factor), h .work ∙ sym (k .work))
+pub inverse-determined : (p n : ℤ) (e t c u f v : List ℤ) (r s : Answer) (u₁ u₂ f₁ f₂ v₁ v₂ : List ℤ)
+    → InverseGiven p n e t c u f v r u₁ f₁ v₁ → InverseGiven p n e t c u f v s u₂ f₂ v₂ → (r ≡ s) × (u₁ ≡ u₂) × (f₁ ≡ f₂) × (v₁ ≡ v₂)
+inverse-determined p n e t c u f v r s u₁ u₂ f₁ f₂ v₁ v₂ h k =
+    (said-inj r s (h .answer ∙ sym (k .answer)), h .words ∙ sym (k .words), h .factor ∙ sym (k .factor), h .work ∙ sym (k .work))
 
 -- GCD: the answer, and the words of g, of the factor buffer and of the work store afterwards
 pub record GcdGiven (p n : ℤ) (e t a b g f v : List ℤ) (r : Answer) (g′ f′ v′ : List ℤ) : Type 0 where
@@ -154,9 +153,14 @@ abbrev pub numbersOf : Table → List ℕ
 numbersOf [] = []
 numbersOf (row ∷ rows) = row .0 ∷ numbersOf rows
 
--- "Numbers used: .. leading view 1 to 5; sum and difference 1 to 6; product 1 to 7; division 1 to 8; inverse 1 to 5, 7, 9, 11; GCD 1 to 7, 11"; number 2 has
--- three tests, and number 11 none: it would be the remainder sequence's answer
+-- "Numbers used: check of a tower 1 to 3; check of a slot and leading view 1 to 5; sum and difference 1 to 6; product 1 to 7; division 1 to 8; inverse 1 to 5,
+-- 7, 9, 11; GCD 1 to 7, 11; work sizes 2, 5; fraction 1, 10."; number 2 has three tests, number 10 two, and number 11 none: it would be the remainder sequence's
+-- answer
 pub record NumbersUsed : Type 0 where
+  pub tower : (p n : ℤ) (e t : List ℤ) → numbersOf (towerTable p n e t) ≡ 1 ∷ 2 ∷ 2 ∷ 2 ∷ 3 ∷ []
+  pub slot : (p n : ℤ) (e t a : List ℤ) → numbersOf (slotTable p n e t a) ≡ 1 ∷ 2 ∷ 2 ∷ 2 ∷ 3 ∷ 4 ∷ 5 ∷ []
+  pub sizes : (n : ℤ) (e : List ℤ) (a b : ℤ) → numbersOf (workTable n e a b) ≡ 2 ∷ 2 ∷ 2 ∷ 5 ∷ []
+  pub fraction : (p e : ℤ) → numbersOf (fractionTable p e) ≡ 1 ∷ 10 ∷ 10 ∷ []
   pub view : (p n : ℤ) (e t a b : List ℤ) → numbersOf (viewTable p n e t a b) ≡ 1 ∷ 2 ∷ 2 ∷ 2 ∷ 3 ∷ 4 ∷ 5 ∷ []
   pub sum : (p n : ℤ) (e t a b : List ℤ) → numbersOf (sumTable p n e t a b) ≡ 1 ∷ 2 ∷ 2 ∷ 2 ∷ 3 ∷ 4 ∷ 5 ∷ 6 ∷ []
   pub product : (p n : ℤ) (e t a b c v : List ℤ) → numbersOf (productTable p n e t a b c v) ≡ 1 ∷ 2 ∷ 2 ∷ 2 ∷ 3 ∷ 4 ∷ 5 ∷ 6 ∷ 7 ∷ []
@@ -166,6 +170,10 @@ pub record NumbersUsed : Type 0 where
 
 pub numbers-used : NumbersUsed
 numbers-used = record {
+  tower = λ p n e t. refl;
+  slot = λ p n e t a. refl;
+  sizes = λ n e a b. refl;
+  fraction = λ p e. refl;
   view = λ p n e t a b. refl;
   sum = λ p n e t a b. refl;
   product = λ p n e t a b c v. refl;

@@ -7,7 +7,7 @@
 -- ordered                     == the rows stand in the order of their numbers;  ordered-numbered == from 1 on, so none of them is 0
 -- first-append                == two tables, one behind the other
 -- upTo, first-up-to           == no number of the table is above m;  then none above m is given
--- passed-of, first-of         == no number is given exactly where every test passes
+-- zero-unless                 == no number is given where a test passes and the rest gives none;  passed-of, first-of == exactly where every test passes
 -- first-applies               == a number that is given is the first that applies, and comes only under its condition;  first-is == the first that applies is given
 use Prim.Native.Nat.{ℕ, zero, suc, _≤_}
 use native.Mathlib.Nat.{not-suc-le-zero, lt-irrefl}
@@ -150,7 +150,7 @@ abbrev pub Passed : Table → Type 0
 Passed [] = Unit {0}
 Passed (row ∷ rows) = T (row .1 tt) × Passed rows
 
-zero-unless : (b : Bool) (k r : ℕ) → 1 ≤ k → unless b k r ≡ 0 → T b × (r ≡ 0)
+pub zero-unless : (b : Bool) (k r : ℕ) → 1 ≤ k → unless b k r ≡ 0 → T b × (r ≡ 0)
 zero-unless true k r l h = (tt, h)
 zero-unless false k r l h = absurd (lt-irrefl 0 (omega arith))
 

@@ -10,7 +10,7 @@
 -- LentMeans             == for each number what it says; a number that is not used says ⊥
 -- Told, lent-means      == what a call's tests say, and that the number which they give is the one that LentMeans holds of
 -- SlotsHeld, SlotsMeans, slots-means == the same where all lengths are those of slots
--- answered              == what a call says tells the number;  le-iff, lt-iff == the test of two numbers
+-- said-means            == what a call says tells the number;  le-iff, lt-iff == the test of two numbers
 -- Allowed               == as many coefficients as a slot may have;  slot-held, degree-low == the words of such a polynomial over a tower;  slots-held ==
 --                          those of two
 use Prim.Native.Nat.{ℕ, zero, suc, _+_, _*_, _<_, _≤_}
@@ -44,8 +44,8 @@ pub record Means (k : ℕ) (M : ℕ → Type 0) : Type 0 where
   pub only : (j : ℕ) → M j → k ≡ j
 
 -- what the call says tells the number
-pub answered : {A : Type 0} {k : ℕ} {M : ℕ → Type 0} (new old : A) → Means k M → (j : ℕ) → (changedBy k new old .said ≡ refusal j) ↔ M j
-answered {k} {M} new old m j = (λ h. subst M (refusal-inj k j (sym (changed-said k new old) ∙ h)) (m .says), λ x. changed-said k new old ∙ ap refusal (m .only j x))
+pub said-means : {A : Type 0} {k : ℕ} {M : ℕ → Type 0} (new old : A) → Means k M → (j : ℕ) → (changedBy k new old .said ≡ refusal j) ↔ M j
+said-means {k} {M} new old m j = (λ h. subst M (refusal-inj k j (sym (changed-said k new old) ∙ h)) (m .says), λ x. changed-said k new old ∙ ap refusal (m .only j x))
 
 -- two tests, not both passed
 not-both : (a b : Bool) {P Q : Type 0} → T (not a) ↔ P → T (not b) ↔ Q → T (not (a && b)) ↔ (P ⊎ Q)

@@ -1,6 +1,6 @@
 -- What the calls on polynomials share: what a slot holds, the tests of several slots and of the work store, and what a call leaves of the words lent to it.
 --
--- degreeCount                  == one more than the degree of what a slot holds, by its degree word
+-- degreeCount                  == one more than the degree of what a slot holds, by its degree word: passed on from tower/specs/Writing.antt
 -- polynomialOf, coefficientsIn == the polynomial that a slot holds, and its coefficient function
 -- formsRow                     == the test of the form of two slots
 -- productRoom, quotientRoom    == the coefficients that the answer's slot needs;  roomNeeded == of a division or else of a product
@@ -13,7 +13,7 @@ use mathlib.Core.Bool.{Bool, true, false, _&&_}
 use mathlib.Core.List.{List, [], _∷_, _++_}
 use lib.IntN.{ℤ, pos}
 use lib.Dec.{T, leb}
-use lib.ListN.{length, getD, drop}
+use lib.ListN.{length, drop}
 use Rattle.algebra.specs.Ring.{CRing}
 use Rattle.algebra.specs.Vec.{Vec, coef, trunc}
 use Rattle.residue.specs.Word.{num}
@@ -21,13 +21,10 @@ use Rattle.tower.specs.Form.{copies}
 use Rattle.tower.specs.Levels.{El, group, ring}
 use Rattle.tower.specs.Limits.{pOk, p-positive, degreesOf}
 use Rattle.tower.specs.Work.{productWork}
-use Rattle.tower.specs.Writing.{slot, unslot, towerOf, countOf}
+use Rattle.tower.specs.Writing.{slot, unslot, towerOf}
+pub use Rattle.tower.specs.Writing.{degreeCount}
 use Rattle.kernel.specs.Refusals.{Said, done, refused, bad-length, bad-form, small-answer, small-work, Table, first}
 use Rattle.kernel.specs.Calls.{coefficientsOf, lengthOk, formOk, towerTable}
-
--- one more than the degree of what a slot holds, 0 for zero
-abbrev pub degreeCount : List ℤ → ℕ
-degreeCount a = countOf (getD a 0 (pos 0))
 
 -- the polynomial that a slot of k coefficients holds
 abbrev pub polynomialOf : (p n : ℤ) (e : List ℤ) → T (pOk p) → (k : ℕ) → List ℤ → Vec (El (num p) (degreesOf e) (num n)) k

@@ -20,7 +20,7 @@ use Rattle.tower.specs.Limits.{p-positive, degreesOf}
 use Rattle.kernel.specs.Calls.{coefficientsOf}
 use Rattle.kernel.specs.Meaning.{TowerHeld}
 use Rattle.kernel.specs.Refusals.{refusal}
-use Rattle.kernel.specs.SlotAnswers.{Means, answered, SlotsMeans, slots-means, Allowed, degree-low, slots-held}
+use Rattle.kernel.specs.SlotAnswers.{Means, said-means, SlotsMeans, slots-means, Allowed, degree-low, slots-held}
 use Rattle.kernel.specs.SlotLaws.{count-slot}
 use Rattle.kernel.specs.SlotMeaning.{PolynomialOf, slotOf}
 use Rattle.kernel.specs.Slots.{degreeCount}
@@ -54,7 +54,7 @@ module _ (p n : ℤ) (e t a b : List ℤ) where
   sum-given = sum-means .only
 
   pub sum-answers : (neg : Bool) (j : ℕ) → (sum neg p n e t a b .said ≡ refusal j) ↔ SumMeans p n e t a b j
-  sum-answers neg = answered (sumWords neg p n e a b) a sum-means
+  sum-answers neg = said-means (sumWords neg p n e a b) a sum-means
 
 -- over a tower, polynomials u and w of k and l coefficients
 module _ (p n : ℤ) (e t : List ℤ) (τ : TowerHeld p n e t) (k l : ℕ) (k-in : Allowed n e k) (l-in : Allowed n e l) (u : PolynomialOf p n e k) (w : PolynomialOf p n e l) where

@@ -6,7 +6,7 @@
 -- Viewed, viewed        == no number: what the tests have shown
 -- part-b, part-a, part-none == which part it is
 -- Leading               == where the part starts and ends and what its words are;  view-of-b, view-of-a == which slot it is of
--- Numbered, BothZero    == a number applies; none, and both are zero;  view-empty == the part is empty precisely then
+-- SomeNumber, BothZero  == a number applies; none, and both are zero;  view-empty == the part is empty precisely then
 use Prim.Native.Nat.{ℕ, zero, suc, _+_, _-_, _*_, _<_, _≤_}
 use native.Mathlib.Nat.{lt-irrefl, suc-mul, mul-le-mul-right}
 use native.Mathlib.Omega.{arith}
@@ -95,11 +95,15 @@ module _ (p n : ℤ) (e t a b : List ℤ) where
   -- ---- which part
   -- b's where it has the higher degree
   pub part-b : viewNumber p n e t a b ≡ 0 → degreeCount a < degreeCount b → leadingPart p n e t a b ≡ topPart true (sizeOf n e) (degreeCount b)
-  part-b h q = λ i. partBy (h i) (higherPart (to-true (ltb (degreeCount a) (degreeCount b)) (lt→ltb (degreeCount a) (degreeCount b) q) i) (sizeOf n e) (degreeCount a) (degreeCount b))
+  part-b h q =
+      let yes = to-true (ltb (degreeCount a) (degreeCount b)) (lt→ltb (degreeCount a) (degreeCount b) q) in
+      λ i. partBy (h i) (higherPart (yes i) (sizeOf n e) (degreeCount a) (degreeCount b))
 
   -- and else a's
   pub part-a : viewNumber p n e t a b ≡ 0 → degreeCount b ≤ degreeCount a → leadingPart p n e t a b ≡ topPart false (sizeOf n e) (degreeCount a)
-  part-a h q = λ i. partBy (h i) (higherPart (no (ltb (degreeCount a) (degreeCount b)) (ltb→lt (degreeCount a) (degreeCount b)) i) (sizeOf n e) (degreeCount a) (degreeCount b))
+  part-a h q =
+      let other = no (ltb (degreeCount a) (degreeCount b)) (ltb→lt (degreeCount a) (degreeCount b)) in
+      λ i. partBy (h i) (higherPart (other i) (sizeOf n e) (degreeCount a) (degreeCount b))
     where
       no : (x : Bool) → (T x → degreeCount a < degreeCount b) → x ≡ false
       no true l = absurd (lt-irrefl 0 (omega (arith, l tt)))
@@ -157,7 +161,8 @@ module _ (p n : ℤ) (e t a b : List ℤ) where
     zero-number : viewNumber p n e t a b ≡ 0
     zero-number = view-given 0 none
 
-    -- b's leading coefficient where it has the higher degree
+    -- b's leading coefficient where it has the higher degree: a slot in form is zero from its degree word's count on and not zero under it (held-below, held-top),
+    -- so the counts compare the degrees
     pub view-of-b : degreeCount a < degreeCount b → Leading true m
     view-of-b q =
         let g = viewed zero-number in
@@ -171,7 +176,7 @@ module _ (p n : ℤ) (e t a b : List ℤ) where
 
   -- ---- the empty part
   -- a number applies
-  pub record Numbered : Type 0 where
+  pub record SomeNumber : Type 0 where
     pub number : ℕ
     pub one : 1 ≤ number
     pub applies : ViewMeans p n e t a b number
@@ -188,7 +193,7 @@ module _ (p n : ℤ) (e t a b : List ℤ) where
       let words : length (leadingView p n e t a b) ≡ sizeOf n e = ap length (l .words) ∙ write-long (num p) (degreesOf e) (num n) _ in
       lt-irrefl 0 (omega (arith, words, ap length q, size-pos (degreesOf e) (num n)))
 
-  pub view-empty : (leadingView p n e t a b ≡ []) ↔ (Numbered ⊎ BothZero)
+  pub view-empty : (leadingView p n e t a b ≡ []) ↔ (SomeNumber ⊎ BothZero)
   view-empty = (λ q. which (viewNumber p n e t a b) refl q, empty)
     where
       zeros : (none : ViewMeans p n e t a b 0) → degreeCount a ≡ 0 → degreeCount b ≡ 0 → BothZero
@@ -203,11 +208,11 @@ module _ (p n : ℤ) (e t a b : List ℤ) where
       at-zero none q (inl l) (inr z) = absurd (leading-some false _ (view-of-a none l z) q)
       at-zero none q (inr l) z = absurd (leading-some true _ (view-of-b none l) q)
 
-      which : (k : ℕ) → viewNumber p n e t a b ≡ k → leadingView p n e t a b ≡ [] → Numbered ⊎ BothZero
+      which : (k : ℕ) → viewNumber p n e t a b ≡ k → leadingView p n e t a b ≡ [] → SomeNumber ⊎ BothZero
       which zero h q = inr (at-zero (view-says 0 h) q (le-or-lt (degreeCount b) (degreeCount a)) (le-or-lt (degreeCount a) 0))
       which (suc k) h q = inl (record { number = suc k; one = omega arith; applies = view-says (suc k) h })
 
-      empty : Numbered ⊎ BothZero → leadingView p n e t a b ≡ []
+      empty : SomeNumber ⊎ BothZero → leadingView p n e t a b ≡ []
       empty (inl x) =
           let one : suc (x .number - 1) ≡ x .number = omega (arith, x .one) in
           part-none (x .number - 1) (view-given (x .number) (x .applies) ∙ sym one)

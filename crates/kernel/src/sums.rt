@@ -38,7 +38,9 @@ pub fn lengths_ok(s: usize, k: usize, l: usize) -> bool
 // Both slots are in form.
 pub fn forms_ok(s: Shape, p: u64, a: &[i64], b: &[i64]) -> bool
     requires { ⌜ Known s × (slotLength (s .size) (length (now a)) ≡ true) × (slotLength (s .size) (length (now b)) ≡ true) ⌝ }
-    ensures { λ r. ⌜ r ≡ (slotForm p (s .degrees) (s .levels) (slotCount (s .size) (length (now (a .entry)))) (now (a .entry)) && slotForm p (s .degrees) (s .levels) (slotCount (s .size) (length (now (b .entry)))) (now (b .entry))) ⌝ }
+    ensures { λ r. ⌜ r
+        ≡ (slotForm p (s .degrees) (s .levels) (slotCount (s .size) (length (now (a .entry)))) (now (a .entry))
+        && slotForm p (s .degrees) (s .levels) (slotCount (s .size) (length (now (b .entry)))) (now (b .entry))) ⌝ }
 {
     if !slot_ok(s, p, a) {
         return false;

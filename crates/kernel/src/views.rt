@@ -11,7 +11,7 @@ use tower::form::coefficient_at;
 use tower::words::count_at;
 
 // The words of the leading coefficient, of s words, of what a slot holds; none of zero.
-pub fn top(s: usize, a: &[i64]) -> &[i64]
+pub fn leading_words(s: usize, a: &[i64]) -> &[i64]
     requires { ⌜ (0 < length (now a)) × (degreeCount (now a) * s < length (now a)) × (length (now a) ≤ 65536) ⌝ }
     ensures { λ r. ⌜ now r ≡ topWords s (now (a .entry)) ⌝ }
 {
@@ -33,7 +33,7 @@ pub fn leading<'a>(p: i64, n: i64, e: [i64; 4], t: &[i64], a: &'a [i64], b: &'a 
     }
     let s = shape_of(n, e);
     if count_at(a, 0) < count_at(b, 0) {
-        return top(s.size, b);
+        return leading_words(s.size, b);
     }
-    top(s.size, a)
+    leading_words(s.size, a)
 }

@@ -24,7 +24,7 @@ use Rattle.algebra.specs.Series.{_*ˢ_}
 use Rattle.algebra.specs.Vec.{Vec, Below, coef, coef-zero, zeroᵛ, trunc-at}
 use Rattle.algebra.specs.Windows.{first, span, span-left, span-right, sum-zero, sum, product-at}
 use Rattle.tower.specs.Levels.{El, group, zero-test, Tower, ring}
-use Rattle.tower.specs.Writing.{size, size-pos, write, slot-long}
+use Rattle.tower.specs.Writing.{size, size-pos, write, slot-long, degreeCount}
 use Rattle.tower.specs.Form.{seg, copies, zeroWords, inForm}
 use Rattle.tower.specs.Lists.{seg-long, copies-long}
 use Rattle.tower.specs.Coding.{writes-zero}
@@ -36,7 +36,7 @@ use Rattle.arithmetic.specs.Sum.{gained}
 use Rattle.products.specs.Value.{value-pairs}
 use Rattle.products.specs.Product.{work, TowerStands, Two, two, Given, Pairs, ProductReady, ProductDone}
 use Rattle.products.proofs.Frames.{parts-fit, worked-kept}
-use Rattle.polynomials.specs.Slots.{productCount, slotProduct, countIn, SlotsReady, FinishReady, Finished, MultiplyReady, Multiplied, MultiplyAtReady, MultipliedAt}
+use Rattle.polynomials.specs.Slots.{productCount, slotProduct, SlotsReady, FinishReady, Finished, MultiplyReady, Multiplied, MultiplyAtReady, MultipliedAt}
 
 -- ---- slots
 pub part-of-slot : (p : ℕ) (p-pos : 0 < p) (d : List ℕ) (i k : ℕ) (v : Vec (El p d i) k) (x : List ℤ) → SlotStands p d i k v x 0
@@ -53,7 +53,7 @@ zeros-stand p p-pos d i n w w′ a h k l =
     ∙ ap (write p d i) (coef-zero (group p p-pos d i .𝟘) n k)
 
 -- a polynomial is zero from its count on
-pub below-count : (p : ℕ) (p-pos : 0 < p) (d : List ℕ) (i k : ℕ) (v : Vec (El p d i) k) (x : List ℤ) (c : ℕ) → c ≡ countIn x → SlotStands p d i k v x 0
+pub below-count : (p : ℕ) (p-pos : 0 < p) (d : List ℕ) (i k : ℕ) (v : Vec (El p d i) k) (x : List ℤ) (c : ℕ) → c ≡ degreeCount x → SlotStands p d i k v x 0
     → Below (group p p-pos d i .𝟘) c (coef (group p p-pos d i .𝟘) k v)
 below-count p p-pos d i k v x c e s n h = degree-told p p-pos d i x 0 k v s .rest n (omega (arith, e))
 
@@ -268,7 +268,7 @@ module _ {j i : ℕ} {d z : List ℕ} {p : ℕ} {t a : List ℤ} {ca : ℕ} {b :
 
 -- ---- the loop: j coefficients are made; c₀ and w₀ are the lists before
 pub record Multiplying (i : ℕ) (d : List ℕ) (p : ℕ) (t a b c₀ w₀ : List ℤ) (j : ℕ) (c w : List ℤ) : Type 0 where
-  pub most : j ≤ productCount (countIn a) (countIn b)
+  pub most : j ≤ productCount (degreeCount a) (degreeCount b)
   pub frame : Kept 0 (size d i + work d i) w₀ w
   pub c-frame : Kept 1 (j * size d i) c₀ c
   pub made : (p-pos : 0 < p) (tt : Tower p d i) (ka : ℕ) (u : Vec (El p d i) ka) (kb : ℕ) (v : Vec (El p d i) kb)
@@ -282,10 +282,10 @@ module _ {i k : ℕ} {d z : List ℕ} {p : ℕ} {t a b c₀ w₀ : List ℤ} (r 
 
   -- how many there are to make
   abbrev h : ℕ
-  h = productCount (countIn a) (countIn b)
+  h = productCount (degreeCount a) (degreeCount b)
 
   -- the counts are small
-  pub multiply-counts : (countIn a < length a) × (countIn b < length b)
+  pub multiply-counts : (degreeCount a < length a) × (degreeCount b < length b)
   multiply-counts =
       let q = r .slots in (
         omega (arith, r .a-inside, words-many d i (r .ka), count-few p (q .p-pos) d i a 0 (r .ka) (r .u) (r .a-stands)),
@@ -301,7 +301,7 @@ module _ {i k : ℕ} {d z : List ℕ} {p : ℕ} {t a b c₀ w₀ : List ℤ} (r 
   }
 
   -- the counts, as they are read
-  module _ {ca cb l : ℕ} (ea : ca ≡ countIn a) (eb : cb ≡ countIn b) (el : l ≡ productCount ca cb) where
+  module _ {ca cb l : ℕ} (ea : ca ≡ degreeCount a) (eb : cb ≡ degreeCount b) (el : l ≡ productCount ca cb) where
     all : l ≡ h
     all = el ∙ ap₂ productCount ea eb
 
@@ -354,11 +354,11 @@ module _ {i k : ℕ} {d z : List ℕ} {p : ℕ} {t a b c₀ w₀ : List ℤ} (r 
       → (n : ℕ) → h ≤ n → _*ˢ_ (ring p p-pos d i tt) (coef (group p p-pos d i .𝟘) ka u) (coef (group p p-pos d i .𝟘) kb v) n ≡ group p p-pos d i .𝟘
   rest p-pos tt ka u kb v su sv n q =
       let R = ring p p-pos d i tt in
-      let e = none (countIn a) (countIn b) n q in
-      product-at R (countIn a) (countIn b) _ _ (below-count p p-pos d i ka u a _ refl su) (below-count p p-pos d i kb v b _ refl sv) n
+      let e = none (degreeCount a) (degreeCount b) n q in
+      product-at R (degreeCount a) (degreeCount b) _ _ (below-count p p-pos d i ka u a _ refl su) (below-count p p-pos d i kb v b _ refl sv) n
       ∙ sum-empty R _ _ e
 
-  module _ {ca cb l : ℕ} (ea : ca ≡ countIn a) (eb : cb ≡ countIn b) (el : l ≡ productCount ca cb) where
+  module _ {ca cb l : ℕ} (ea : ca ≡ degreeCount a) (eb : cb ≡ degreeCount b) (el : l ≡ productCount ca cb) where
     fits : l ≤ k
     fits = omega (arith, all ea eb el, r .fits)
 

@@ -14,16 +14,16 @@ use Rattle.algebra.specs.Vec.{Vec, Below, coef, coef-below, trunc, trunc-at, tr
 use Rattle.algebra.specs.Divide.{quotient-below, remainder-small}
 use Rattle.algebra.specs.Divided.{row-low, row-high, remainder-cut, quotient-cut}
 use Rattle.tower.specs.Levels.{El, group, Tower, ring}
-use Rattle.tower.specs.Writing.{size, write, slot, slot-long}
+use Rattle.tower.specs.Writing.{size, write, slot, slot-long, degreeCount}
 use Rattle.tower.specs.Form.{seg}
 use Rattle.tower.specs.Store.{Kept, Put, kept-refl, kept-trans, kept-wide, kept-seg}
 use Rattle.tower.specs.Stands.{Stands, SlotStands, count-few}
 use Rattle.products.specs.Product.{work, TowerStands}
-use Rattle.polynomials.specs.Slots.{lowOf, slotRemainder, slotQuotient, countIn, FinishReady, Finished, DivideReady, Parted, DivideRowReady, DividedRow}
+use Rattle.polynomials.specs.Slots.{lowOf, slotRemainder, slotQuotient, FinishReady, Finished, DivideReady, Parted, DivideRowReady, DividedRow}
 use Rattle.polynomials.proofs.Multiplies.{part-of-slot, below-count}
 
 -- cap coefficients by a divisor of degree g
-module _ {i ka kq : ℕ} {d z : List ℕ} {p : ℕ} {t a b q w : List ℤ} (r : DivideReady i ka kq d z p t a b q w) {cap g : ℕ} (ec : cap ≡ countIn a) (eg : g ≡ countIn b - 1) where
+module _ {i ka kq : ℕ} {d z : List ℕ} {p : ℕ} {t a b q w : List ℤ} (r : DivideReady i ka kq d z p t a b q w) {cap g : ℕ} (ec : cap ≡ degreeCount a) (eg : g ≡ degreeCount b - 1) where
   abbrev S : ℕ
   S = size d i
 
@@ -51,8 +51,8 @@ module _ {i ka kq : ℕ} {d z : List ℕ} {p : ℕ} {t a b q w : List ℤ} (r : 
     dividend = a-few;
     divisor = λ p-pos kb v s. omega (arith, eg, count-few p p-pos d i b 0 kb v s);
     few =
-        let fewer : g ≤ countIn b = omega arith in
-        let most : g * S ≤ countIn b * S = mul-le-mul-right S fewer in
+        let fewer : g ≤ degreeCount b = omega arith in
+        let most : g * S ≤ degreeCount b * S = mul-le-mul-right S fewer in
         omega (arith, r .few);
     q-inside =
         let most : c * S ≤ kq * S = mul-le-mul-right S q-few in

@@ -8,8 +8,8 @@ use Prim.Native.Nat.{ℕ, zero, suc, _+_, _-_, _*_, _^_, _<_, _≤_}
 use mathlib.Core.Path.{_≡_}
 use mathlib.Core.Logic.{_⊎_}
 use mathlib.Core.List.{List}
-use lib.IntN.{ℤ, pos}
-use lib.ListN.{length, getD}
+use lib.IntN.{ℤ}
+use lib.ListN.{length}
 use Rattle.algebra.specs.Ring.{CRing}
 use Rattle.algebra.specs.Vec.{Vec, coef, trunc}
 use Rattle.algebra.specs.Series.{_*ˢ_}
@@ -17,7 +17,7 @@ use Rattle.algebra.specs.Divide.{quotient, remainder}
 use Rattle.algebra.specs.Divided.{row}
 use Rattle.residue.specs.Number.{Modulus}
 use Rattle.tower.specs.Levels.{El, group, Tower, ring}
-use Rattle.tower.specs.Writing.{size, towerSize, slot, countOf}
+use Rattle.tower.specs.Writing.{size, towerSize, slot, degreeCount}
 use Rattle.tower.specs.Form.{seg}
 use Rattle.tower.specs.Ready.{Sized, Positive}
 use Rattle.tower.specs.Store.{Kept, Put}
@@ -42,10 +42,6 @@ slotRemainder R g l ka f = trunc ka (coef (R .𝟘) g (remainder R g l ka f))
 -- on a slot of k coefficients
 abbrev pub slotQuotient : (R : CRing) (g : ℕ) → Vec (R .Car) g → (k ka : ℕ) → Vec (R .Car) ka → Vec (R .Car) k
 slotQuotient R g l k ka f = trunc k (coef (R .𝟘) ka (quotient R g l ka f))
-
--- one more than the degree of what a slot holds, 0 for zero
-abbrev pub countIn : List ℤ → ℕ
-countIn a = countOf (getD a 0 (pos 0))
 
 -- ---- what is the same in both: the modulus, the sizes, a tower, a slot b to read, and room in the store
 pub record SlotsReady (i : ℕ) (d z : List ℕ) (p : ℕ) (t b w : List ℤ) : Type 0 where
@@ -86,8 +82,8 @@ pub record MultiplyReady (i k : ℕ) (d z : List ℕ) (p : ℕ) (t a b c w : Lis
   pub u : Vec (El p d i) ka
   pub a-stands : SlotStands p d i ka u a 0
   pub a-inside : 1 + ka * size d i ≤ length a
-  pub few : countIn a * size d i ≤ 2 ^ 31
-  pub fits : productCount (countIn a) (countIn b) ≤ k
+  pub few : degreeCount a * size d i ≤ 2 ^ 31
+  pub fits : productCount (degreeCount a) (degreeCount b) ≤ k
   pub c-inside : 1 + k * size d i ≤ length c
 
 pub record Multiplied (i k : ℕ) (d : List ℕ) (p : ℕ) (t a b c c′ w w′ : List ℤ) : Type 0 where
@@ -103,9 +99,9 @@ pub record MultiplyAtReady (j i : ℕ) (d z : List ℕ) (p : ℕ) (t a : List �
   pub u : Vec (El p d i) ka
   pub a-stands : SlotStands p d i ka u a 0
   pub a-inside : 1 + ka * size d i ≤ length a
-  pub few : countIn a * size d i ≤ 2 ^ 31
-  pub a-count : ca ≡ countIn a
-  pub b-count : cb ≡ countIn b
+  pub few : degreeCount a * size d i ≤ 2 ^ 31
+  pub a-count : ca ≡ degreeCount a
+  pub b-count : cb ≡ degreeCount b
   pub reached : j < productCount ca cb
   pub c-inside : 1 + j * size d i + size d i ≤ length c
 
@@ -123,9 +119,9 @@ pub record DivideReady (i ka kq : ℕ) (d z : List ℕ) (p : ℕ) (t a b q w : L
   pub f : Vec (El p d i) ka
   pub a-stands : SlotStands p d i ka f a 0
   pub a-inside : 1 + ka * size d i ≤ length a
-  pub some : 0 < countIn b
-  pub few : countIn b * size d i ≤ 2 ^ 31
-  pub fits : countIn a - (countIn b - 1) ≤ kq
+  pub some : 0 < degreeCount b
+  pub few : degreeCount b * size d i ≤ 2 ^ 31
+  pub fits : degreeCount a - (degreeCount b - 1) ≤ kq
   pub q-inside : 1 + kq * size d i ≤ length q
 
 -- the remainder replaces the dividend, the quotient stands in q
@@ -133,10 +129,10 @@ pub record Parted (i ka kq : ℕ) (d : List ℕ) (p : ℕ) (t a a′ b q q′ w 
   pub frame : Kept 0 (size d i + work d i) w w′
   pub left : (p-pos : 0 < p) (tt : Tower p d i) (f : Vec (El p d i) ka) (kb : ℕ) (v : Vec (El p d i) kb)
       → TowerStands p p-pos d i tt t 0 → SlotStands p d i ka f a 0 → SlotStands p d i kb v b 0
-      → Put 0 (slot p d i ka (slotRemainder (ring p p-pos d i tt) (countIn b - 1) (lowOf (ring p p-pos d i tt) (countIn b - 1) kb v) ka f)) a a′
+      → Put 0 (slot p d i ka (slotRemainder (ring p p-pos d i tt) (degreeCount b - 1) (lowOf (ring p p-pos d i tt) (degreeCount b - 1) kb v) ka f)) a a′
   pub quotient : (p-pos : 0 < p) (tt : Tower p d i) (f : Vec (El p d i) ka) (kb : ℕ) (v : Vec (El p d i) kb)
       → TowerStands p p-pos d i tt t 0 → SlotStands p d i ka f a 0 → SlotStands p d i kb v b 0
-      → Put 0 (slot p d i kq (slotQuotient (ring p p-pos d i tt) (countIn b - 1) (lowOf (ring p p-pos d i tt) (countIn b - 1) kb v) kq ka f)) q q′
+      → Put 0 (slot p d i kq (slotQuotient (ring p p-pos d i tt) (degreeCount b - 1) (lowOf (ring p p-pos d i tt) (degreeCount b - 1) kb v) kq ka f)) q q′
 
 -- the row of the dividend's cap coefficients divided: below g in a, from g on in q
 pub record DivideRowReady (i : ℕ) (d z : List ℕ) (p : ℕ) (t a b : List ℤ) (g cap : ℕ) (q w : List ℤ) : Type 0 where

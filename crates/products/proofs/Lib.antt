@@ -4,7 +4,7 @@ pub mod Pairings
 pub mod Lowests
 pub mod Dots
 pub mod Lowerings
-pub mod Threes
+pub mod AtOnce
 pub mod Fillings
 pub mod Remainders
 pub mod Units

@@ -5,7 +5,7 @@
 -- lowering-start, -ready, -summed, -writes, -next, -end == how the loop starts, goes on and ends
 -- level-one, lowest-leaves, lowest-done == what it leaves becomes the answer
 use Prim.Native.Nat.{ℕ, zero, suc, _+_, _-_, _*_, _^_, _<_, _≤_}
-use native.Mathlib.Nat.{zero-add, mul-one, mul-le-mul-right, lt-irrefl}
+use native.Mathlib.Nat.{zero-add, mul-one, lt-irrefl}
 use native.Mathlib.Omega.{arith}
 use mathlib.Core.Path.{_≡_, refl, sym, ap, ap₂, _∙_, subst}
 use mathlib.Core.Bool.{Bool, true, false}
@@ -36,6 +36,7 @@ use Rattle.products.specs.Value.{part, value-zero, value-suc, pairs, par
 use Rattle.products.specs.Product.{Inside, Two, Given, Pairs, TowerStands, Worked, work, work-suc, ProductReady, ProductDone}
 use Rattle.products.specs.Lowest.{oldNumber, OldReady, pairsNumber, PairsAtReady, SummedAt, DividedReady, dividedNumber}
 use Rattle.products.specs.Lowest.{WriteReady, writtenNumber, LowestDone, LeaveReady, Left}
+use Rattle.arithmetic.proofs.Boxes.{size-grows}
 use Rattle.arithmetic.proofs.Gains.{gained-number}
 use Rattle.products.proofs.Towers.{tower-low}
 use Rattle.products.proofs.Frames.{inside-kept, operating-kept, tower-kept, given-kept}
@@ -95,14 +96,6 @@ pub record Lowering (d : List ℕ) (p : ℕ) (m : List ℕ) (e : List ℤ) (e-in
   pub so-far : (p-pos : 0 < p) (t : Tower p d 1) (u v : ℕ → El p d (o .i)) (old : El p d 1) → TowerStands p p-pos d 1 t (pick e-in w₀ e) ea
       → Given p p-pos d o u v 1 old keep w₀ c → (n : ℕ) → k ≤ n → n < wide (degree d 0) → Stands p d 0 (outAt p p-pos d t o u v m neg old n) w (top + n)
 
--- where every degree is positive, sizes grow
-size-up : (d : List ℕ) (i : ℕ) → 1 ≤ i → ((l : ℕ) → 1 ≤ l → l < i → 0 < degree d l) → size d 1 ≤ size d i
-size-up d zero h f = absurd (lt-irrefl 0 h)
-size-up d (suc zero) h f = omega arith
-size-up d (suc (suc i)) h f =
-    let more : 1 * size d (suc i) ≤ degree d (suc i) * size d (suc i) = mul-le-mul-right (size d (suc i)) (f (suc i) (omega arith) (omega arith)) in
-    omega (arith, size-up d (suc i) (omega arith) (λ l q s. f l q (omega arith)), size-suc d (suc i))
-
 module _ {d z : List ℕ} {p : ℕ} {m : List ℕ} {e : List ℤ} {e-in : Bool} {ea : ℕ} {o : Two} {keep : Bool} {w₀ : List ℤ} {c top : ℕ}
     (h : ProductReady 1 d z p m e e-in ea o keep w₀ c top) where
   -- the lowest degree: at least 1, and small beside the pairs
@@ -111,7 +104,7 @@ module _ {d z : List ℕ} {p : ℕ} {m : List ℕ} {e : List ℤ} {e-in : Bool} 
 
   pub lowest-few : o .n * size d (o .i) + degree d 0 < 2 ^ 32
   lowest-few =
-      let up = size-up d (o .i) (h .level) (λ l q s. (let r = h .reached l q s in omega arith)) in
+      let up = size-grows d 1 (o .i) (h .level) (λ l q s. (let r = h .reached l q s in omega arith)) in
       omega (arith, h .operating .few, size-suc d 0, ones d (degree d 0))
 
   -- the words from top on

@@ -1,6 +1,6 @@
 // The two lowest levels of a product, and how an answer is left: a sum of products of residues; at level 1 all coefficients from the top down, each
-// the residue of its own sum and of what the quotient's coefficients above it take away. Elements of level 1 with two coefficients have three sums,
-// which one walk over the pairs makes.
+// the residue of its own sum and of what the quotient's coefficients above it take away. Elements of level 1 with two or four coefficients have three or
+// seven sums, which are made at once.
 ghost use mathlib.Core.Path.{_≡_};
 ghost use Prim.Native.Nat.{_+_, _<_};
 ghost use lib.IntN.{pos};
@@ -12,6 +12,7 @@ ghost use Rattle.arithmetic.specs.Walk.{pick};
 ghost use Rattle.products.specs.Lowest.{oldNumber, OldReady, SingleReady, singleNumber, PairsAtReady, SummedAt, DividedReady, dividedNumber};
 ghost use Rattle.products.specs.Lowest.{WriteReady, writtenNumber, LowestDone, LeaveReady, Left};
 use arithmetic::lines::line_pairs;
+use arithmetic::lines::seven_pairs;
 use arithmetic::lines::three_pairs;
 use arithmetic::places::first_of;
 use arithmetic::places::keeps;
@@ -174,12 +175,20 @@ pub fn lowest(
     if i == 1 {
         if g == 2 {
             let t = three_pairs(w, x, x_in, a, y, y_in, b, n);
-            let high = t.high;
-            let middle = t.middle;
-            let low = t.low;
-            write_at(2, g, p, e, e_in, ea, neg, keep, w, c, top, high);
-            write_at(1, g, p, e, e_in, ea, neg, keep, w, c, top, middle);
-            write_at(0, g, p, e, e_in, ea, neg, keep, w, c, top, low);
+            write_at(2, g, p, e, e_in, ea, neg, keep, w, c, top, t.high);
+            write_at(1, g, p, e, e_in, ea, neg, keep, w, c, top, t.middle);
+            write_at(0, g, p, e, e_in, ea, neg, keep, w, c, top, t.low);
+            return;
+        }
+        if g == 4 {
+            let t = seven_pairs(w, x, x_in, a, y, y_in, b, n);
+            write_at(6, g, p, e, e_in, ea, neg, keep, w, c, top, t.third.high);
+            write_at(5, g, p, e, e_in, ea, neg, keep, w, c, top, t.third.middle);
+            write_at(4, g, p, e, e_in, ea, neg, keep, w, c, top, t.third.low);
+            write_at(3, g, p, e, e_in, ea, neg, keep, w, c, top, t.second.middle);
+            write_at(2, g, p, e, e_in, ea, neg, keep, w, c, top, t.second.low);
+            write_at(1, g, p, e, e_in, ea, neg, keep, w, c, top, t.first.middle);
+            write_at(0, g, p, e, e_in, ea, neg, keep, w, c, top, t.first.low);
             return;
         }
     }

@@ -2,7 +2,7 @@
 --
 -- room d i c      == P(c - 1, i): the words of c coefficients of level i and a degree word
 -- productWork     == M;  inverseWork == I;  gcdWork == the GCD's number, from one more than the two degrees
--- product≤inverse == M(n) ≤ I(n), for any degrees;  productWork-grows, inverseWork-grows == what a level needs, those above it have
+-- product≤inverse == M(n) ≤ I(n), for any degrees;  inverseWork-grows == what a level needs, those above it have
 use mathlib.Core.Path.{_≡_, refl}
 use mathlib.Core.List.{List}
 use Prim.Native.Nat.{ℕ, zero, suc, _+_, _-_, _*_, _≤_}
@@ -36,9 +36,6 @@ productWork-suc d i = refl
 pub inverseWork-suc : (d : List ℕ) (i : ℕ) → inverseWork d (suc i) ≡ 5 * room d i (degree d i + 1) + inverseWork d i
 unfolding inverseWork
 inverseWork-suc d i = refl
-
-pub productWork-grows : (d : List ℕ) (i : ℕ) → productWork d i ≤ productWork d (suc i)
-productWork-grows d i = omega (arith, productWork-suc d i)
 
 pub inverseWork-grows : (d : List ℕ) (i : ℕ) → inverseWork d i ≤ inverseWork d (suc i)
 inverseWork-grows d i = omega (arith, inverseWork-suc d i)

@@ -5,7 +5,7 @@
 -- its own degree word and two elements of level 1, each a degree word and three residues. A degree word is -1 for zero. The zero of level 1 for d_1 = 3
 -- is -1 0 0 0.
 --
--- size d n          == S_n, the words of an element of level n
+-- size d n          == S_n, the words of an element of level n;  degreeCount == one more than the degree of what a slot holds, by its degree word
 -- write, read       == the words of an element, and back;  slot, unslot == those of k coefficients and their degree, and back
 -- towerWords        == those of a tower's polynomials, the topmost first;  towerOf == and back
 use Prim.Native.Nat.{ℕ, zero, suc, _+_, _*_, _<_}
@@ -61,6 +61,10 @@ degreeWord (suc e) = pos e
 abbrev pub countOf : ℤ → ℕ
 countOf (pos m) = suc m
 countOf (negsuc m) = 0
+
+-- one more than the degree of what a slot holds, 0 for zero
+abbrev pub degreeCount : List ℤ → ℕ
+degreeCount a = countOf (getD a 0 (pos 0))
 
 -- elements one after the other, lowest first
 unfoldable pub writes : {A : Type 0} → (A → List ℤ) → (k : ℕ) → Vec A k → List ℤ

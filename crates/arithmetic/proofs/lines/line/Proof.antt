@@ -56,9 +56,10 @@ add-dots-5 c =
 dots-requires : tie.Need-dots-requires
 dots-requires c κs =
     let s = c .before .before .before .before in
+    let if1 = c .before .before .before .if1 in
     let first-of = c .before .before .first-of in
     let span-of = c .before .span-of in
-    line-rows (s .pre .1) (s .args .k) (s .pre .0) (first-of .ensures) (span-of .ensures)
+    line-rows (s .pre .1) (s .args .k) (s .pre .0) (first-of .ensures) (span-of .ensures) (omega (arith, if1 .left))
 
 returns-2 : tie.Need-returns-2
 returns-2 c =
@@ -112,9 +113,10 @@ dots-requires-2 c κs =
 returns-3 : tie.Need-returns-3
 returns-3 c =
     let s = c .before .before .before .before .before in
+    let if1 = c .before .before .before .before .if1 in
     let first-of = c .before .before .before .first-of in
     let span-of = c .before .before .span-of in
-    columns-line (s .pre .1) (s .args .k) (s .pre .0) (first-of .ensures) (span-of .ensures) (c .dots2 .ensures)
+    columns-line (s .pre .1) (s .args .k) (s .pre .0) (first-of .ensures) (span-of .ensures) (omega (arith, if1 .left)) (c .dots2 .ensures)
 
 pub line-spec : {M : Type 1} → statement M
 line-spec =

@@ -1,232 +1,49 @@
--- `arithmetic::lines::three` meets its contract. The loop has added what the first k pairs come to at the three places. Assumes nothing.
-use mathlib.Core.Path.{refl}
-use Prim.Native.Nat.{_-_}
+-- `arithmetic::lines::three` meets its contract. Assumes nothing.
 use native.Mathlib.Omega.{arith}
-use mir.Facts.{fits-le}
-use Rattle.residue.proofs.Laws.{room-less, room-after}
-use Rattle.arithmetic.proofs.LineSums.{pair-words, Threes, three-start, three-room, three-next, three-end}
+use borrow.Author.Needs.{needs}
+use Rattle.arithmetic.proofs.Tiles.{line-place, three-none, three-ready, three-sums}
 use Rattle.arithmetic.proofs.lines.three.Statement.{statement}
 use Rattle.arithmetic.proofs.lines.three.Tie as tie
 
-abbrev Inv-loop : tie.InvT-loop
-Inv-loop x a y b n low₀ middle₀ high₀ k₀ low middle high k =
-    Threes x y n a b k (low .lo) (low .hi) (middle .lo) (middle .hi) (high .lo) (high .hi)
+from-low-requires : tie.Need-from-low-requires
+from-low-requires c κs = search needs
 
-abbrev μ-loop : tie.MeasureT-loop
-μ-loop x a y b n low₀ middle₀ high₀ k₀ low middle high k = n - k
-
-loop-holds : tie.Need-loop-holds Inv-loop μ-loop
-loop-holds c = three-start _ _ _ _ _
-
-mul-u : tie.Need-mul-u Inv-loop μ-loop
-mul-u c =
-    let s = c .before .before in
-    let loop = c .before .loop in
-    let loop-test = c .loop-test in
-    omega (arith, s .good, pair-words (s .pre) (loop .k) (loop-test .taken) .left .0 .inside)
-
-add-u : tie.Need-add-u Inv-loop μ-loop
-add-u c =
-    let s = c .before .before in
-    let loop = c .before .loop in
-    let loop-test = c .loop-test in
-    omega (arith, s .good, pair-words (s .pre) (loop .k) (loop-test .taken) .left .0 .inside)
-
-sub-v : tie.Need-sub-v Inv-loop μ-loop
-sub-v c = omega (arith, c .loop-test .taken)
-
-sub-v-2 : tie.Need-sub-v-2 Inv-loop μ-loop
-sub-v-2 c = omega (arith, c .loop-test .taken)
-
-mul-v : tie.Need-mul-v Inv-loop μ-loop
-mul-v c =
-    let s = c .before .before in
-    let loop = c .before .loop in
-    let loop-test = c .loop-test in
-    omega (arith, s .good, pair-words (s .pre) (loop .k) (loop-test .taken) .right .0 .inside)
-
-add-v : tie.Need-add-v Inv-loop μ-loop
-add-v c =
-    let s = c .before .before in
-    let loop = c .before .loop in
-    let loop-test = c .loop-test in
-    omega (arith, s .good, pair-words (s .pre) (loop .k) (loop-test .taken) .right .0 .inside)
-
-add-product-at : tie.Need-add-product-at Inv-loop μ-loop
-add-product-at c =
-    let s = c .before .before in
-    let loop = c .before .loop in
-    let loop-test = c .loop-test in
-    omega (arith, s .good, pair-words (s .pre) (loop .k) (loop-test .taken) .left .0 .inside)
-
-add-product-at-2 : tie.Need-add-product-at-2 Inv-loop μ-loop
-add-product-at-2 c =
-    let s = c .before .before in
-    let loop = c .before .loop in
-    let loop-test = c .loop-test in
-    omega (arith, s .good, pair-words (s .pre) (loop .k) (loop-test .taken) .right .0 .inside)
-
-product-at-requires : tie.Need-product-at-requires Inv-loop μ-loop
-product-at-requires c κs =
-    let s = c .before .before in
-    let loop = c .before .loop in
-    let loop-test = c .loop-test in
-    let words = pair-words (s .pre) (loop .k) (loop-test .taken) in
-    (words .left .0, words .right .0)
-
-fold-requires : tie.Need-fold-requires Inv-loop μ-loop
-fold-requires c κs =
-    let s = c .before .before .before in
-    let loop = c .before .before .loop in
-    let loop-test = c .before .loop-test in
-    three-room (loop .inv) (s .pre) (loop-test .taken) .low
-
-add-product-at-3 : tie.Need-add-product-at-3 Inv-loop μ-loop
-add-product-at-3 c =
-    let s = c .before .before .before .before in
-    let loop = c .before .before .before .loop in
-    let loop-test = c .before .before .loop-test in
-    omega (arith, s .good, pair-words (s .pre) (loop .k) (loop-test .taken) .left .0 .inside)
-
-add-product-at-4 : tie.Need-add-product-at-4 Inv-loop μ-loop
-add-product-at-4 c =
-    let s = c .before .before .before .before in
-    let loop = c .before .before .before .loop in
-    let loop-test = c .before .before .loop-test in
-    omega (arith, s .good, pair-words (s .pre) (loop .k) (loop-test .taken) .right .1 .inside)
-
-product-at-requires-2 : tie.Need-product-at-requires-2 Inv-loop μ-loop
-product-at-requires-2 c κs =
-    let s = c .before .before .before .before in
-    let loop = c .before .before .before .loop in
-    let loop-test = c .before .before .loop-test in
-    let words = pair-words (s .pre) (loop .k) (loop-test .taken) in
-    (words .left .0, words .right .1)
-
-fold-requires-2 : tie.Need-fold-requires-2 Inv-loop μ-loop
-fold-requires-2 c κs =
-    let s = c .before .before .before .before .before in
-    let loop = c .before .before .before .before .loop in
-    let loop-test = c .before .before .before .loop-test in
-    room-less 1 2 _ _ (omega arith) (three-room (loop .inv) (s .pre) (loop-test .taken) .middle)
-
-add-product-at-5 : tie.Need-add-product-at-5 Inv-loop μ-loop
-add-product-at-5 c =
-    let s = c .before .before .before .before .before .before in
-    let loop = c .before .before .before .before .before .loop in
-    let loop-test = c .before .before .before .before .loop-test in
-    omega (arith, s .good, pair-words (s .pre) (loop .k) (loop-test .taken) .left .1 .inside)
-
-add-product-at-6 : tie.Need-add-product-at-6 Inv-loop μ-loop
-add-product-at-6 c =
-    let s = c .before .before .before .before .before .before in
-    let loop = c .before .before .before .before .before .loop in
-    let loop-test = c .before .before .before .before .loop-test in
-    omega (arith, s .good, pair-words (s .pre) (loop .k) (loop-test .taken) .right .0 .inside)
-
-product-at-requires-3 : tie.Need-product-at-requires-3 Inv-loop μ-loop
-product-at-requires-3 c κs =
-    let s = c .before .before .before .before .before .before in
-    let loop = c .before .before .before .before .before .loop in
-    let loop-test = c .before .before .before .before .loop-test in
-    let words = pair-words (s .pre) (loop .k) (loop-test .taken) in
-    (words .left .1, words .right .0)
-
-fold-requires-3 : tie.Need-fold-requires-3 Inv-loop μ-loop
-fold-requires-3 c κs =
-    let s = c .before .before .before .before .before .before .before in
-    let loop = c .before .before .before .before .before .before .loop in
-    let loop-test = c .before .before .before .before .before .loop-test in
-    room-after 1 1 2 _ _ _ _ _ (omega arith) (three-room (loop .inv) (s .pre) (loop-test .taken) .middle) (c .before .fold2 .ensures)
-
-add-product-at-7 : tie.Need-add-product-at-7 Inv-loop μ-loop
-add-product-at-7 c =
-    let s = c .before .before .before .before .before .before .before .before in
-    let loop = c .before .before .before .before .before .before .before .loop in
-    let loop-test = c .before .before .before .before .before .before .loop-test in
-    omega (arith, s .good, pair-words (s .pre) (loop .k) (loop-test .taken) .left .1 .inside)
-
-add-product-at-8 : tie.Need-add-product-at-8 Inv-loop μ-loop
-add-product-at-8 c =
-    let s = c .before .before .before .before .before .before .before .before in
-    let loop = c .before .before .before .before .before .before .before .loop in
-    let loop-test = c .before .before .before .before .before .before .loop-test in
-    omega (arith, s .good, pair-words (s .pre) (loop .k) (loop-test .taken) .right .1 .inside)
-
-product-at-requires-4 : tie.Need-product-at-requires-4 Inv-loop μ-loop
-product-at-requires-4 c κs =
-    let s = c .before .before .before .before .before .before .before .before in
-    let loop = c .before .before .before .before .before .before .before .loop in
-    let loop-test = c .before .before .before .before .before .before .loop-test in
-    let words = pair-words (s .pre) (loop .k) (loop-test .taken) in
-    (words .left .1, words .right .1)
-
-fold-requires-4 : tie.Need-fold-requires-4 Inv-loop μ-loop
-fold-requires-4 c κs =
-    let s = c .before .before .before .before .before .before .before .before .before in
-    let loop = c .before .before .before .before .before .before .before .before .loop in
-    let loop-test = c .before .before .before .before .before .before .before .loop-test in
-    three-room (loop .inv) (s .pre) (loop-test .taken) .high
-
-add-k : tie.Need-add-k Inv-loop μ-loop
-add-k c =
-    let s = c .before .before .before .before .before .before .before .before .before .before in
-    let loop-test = c .before .before .before .before .before .before .before .before .loop-test in
-    fits-le (omega (arith, loop-test .taken)) (s .fits .n)
-
-loop-less : tie.Need-loop-less Inv-loop μ-loop
-loop-less c = omega (arith, c .before .before .before .before .before .before .before .before .loop-test .taken)
-
-loop-again : tie.Need-loop-again Inv-loop μ-loop
-loop-again c =
-    let loop = c .before .before .before .before .before .before .before .before .before .loop in
-    let loop-test = c .before .before .before .before .before .before .before .before .loop-test in
-    let product-at = c .before .before .before .before .before .before .before .product-at in
-    let fold = c .before .before .before .before .before .before .fold in
-    let product-at2 = c .before .before .before .before .before .product-at2 in
-    let fold2 = c .before .before .before .before .fold2 in
-    let product-at3 = c .before .before .before .product-at3 in
-    let fold3 = c .before .before .fold3 in
-    let product-at4 = c .before .product-at4 in
-    let fold4 = c .fold4 in
-    three-next (loop .inv) (loop-test .taken) refl refl (product-at .ensures) (product-at2 .ensures) (product-at3 .ensures) (product-at4 .ensures)
-    (fold .ensures) (fold2 .ensures) (fold3 .ensures) (fold4 .ensures)
-
-returns : tie.Need-returns Inv-loop μ-loop
+returns : tie.Need-returns
 returns c =
-    let loop = c .before .loop in
-    three-end (loop .inv) (omega (arith, c .loop-test .left))
+    let s = c .before .before in
+    three-none (s .args .x .now) (s .args .y .now) (s .args .n) (s .args .a) (s .args .b) (c .before .if1 .taken) (c .from-low .ensures)
+
+add-tile : tie.Need-add-tile
+add-tile c =
+    let s = c .before in
+    omega (arith, s .good, line-place (s .pre) (omega (arith, c .if1 .left)) 0 (omega arith) .0)
+
+add-tile-2 : tie.Need-add-tile-2
+add-tile-2 c =
+    let s = c .before in
+    omega (arith, s .good, line-place (s .pre) (omega (arith, c .if1 .left)) 0 (omega arith) .1)
+
+from-low-requires-2 : tie.Need-from-low-requires-2
+from-low-requires-2 c κs = search needs
+
+tile-requires : tie.Need-tile-requires
+tile-requires c κs =
+    let s = c .before .before in
+    three-ready (s .pre) (c .from-low2 .ensures)
+
+returns-2 : tie.Need-returns-2
+returns-2 c =
+    let s = c .before .before .before in
+    three-sums (s .pre) (c .before .from-low2 .ensures) (c .tile .ensures)
 
 pub three-spec : {M : Type 1} → statement M
 three-spec =
     tie.close
     (tie.spec
-    Inv-loop
-    μ-loop
-    loop-holds
-    mul-u
-    add-u
-    sub-v
-    sub-v-2
-    mul-v
-    add-v
-    add-product-at
-    add-product-at-2
-    product-at-requires
-    fold-requires
-    add-product-at-3
-    add-product-at-4
-    product-at-requires-2
-    fold-requires-2
-    add-product-at-5
-    add-product-at-6
-    product-at-requires-3
-    fold-requires-3
-    add-product-at-7
-    add-product-at-8
-    product-at-requires-4
-    fold-requires-4
-    add-k
-    loop-less
-    loop-again
-    returns)
+    from-low-requires
+    returns
+    add-tile
+    add-tile-2
+    from-low-requires-2
+    tile-requires
+    returns-2)

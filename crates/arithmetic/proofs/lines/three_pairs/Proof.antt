@@ -1,6 +1,7 @@
 -- `arithmetic::lines::three_pairs` meets its contract. Assumes nothing.
 use Rattle.arithmetic.proofs.Walks.{pick-true, pick-false}
-use Rattle.arithmetic.proofs.LineSums.{picked-ready, picked-three}
+use Rattle.arithmetic.proofs.LineSums.{picked-ready}
+use Rattle.arithmetic.proofs.Tiles.{picked-three}
 use Rattle.arithmetic.proofs.lines.three_pairs.Statement.{statement}
 use Rattle.arithmetic.proofs.lines.three_pairs.Tie as tie
 

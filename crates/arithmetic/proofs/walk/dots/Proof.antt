@@ -1,16 +1,16 @@
--- `arithmetic::walk::dots` meets its contract. The loop has added the first k terms. Assumes nothing.
+-- `arithmetic::walk::dots` meets its contract. The loop has added the first k turns. Assumes nothing.
 use mathlib.Core.Path.{refl}
-use Prim.Native.Nat.{_+_, _-_, _*_}
+use mathlib.Core.List.{[], _∷_}
+use Prim.Native.Nat.{_-_}
 use native.Mathlib.Omega.{arith}
 use mir.Facts.{fits-le}
-use Rattle.arithmetic.specs.Walk.{dotAt}
-use Rattle.arithmetic.proofs.Walks.{dots-place, dots-turn, Folded, folded-start, folded-room, folded-next, folded-end}
+use Rattle.arithmetic.proofs.Walks.{folded-start, folded-next}
+use Rattle.arithmetic.proofs.Boxes.{Turns, box-place, box-turn, box-end, dot-turn, dot-end}
 use Rattle.arithmetic.proofs.walk.dots.Statement.{statement}
 use Rattle.arithmetic.proofs.walk.dots.Tie as tie
 
 abbrev Inv-loop : tie.InvT-loop
-Inv-loop x a y b rows apart n step r₀ k₀ r k =
-    Folded rows n (λ o. dotAt x y n step (a + o * apart) (b + (rows - 1 - o) * apart)) (r₀ .lo) (r₀ .hi) k (r .lo) (r .hi)
+Inv-loop x a y b rows apart n step r₀ k₀ r k = Turns x y a b rows apart ((n, step) ∷ []) (r₀ .lo) (r₀ .hi) k (r .lo) (r .hi)
 
 abbrev μ-loop : tie.MeasureT-loop
 μ-loop x a y b rows apart n step r₀ k₀ r k = rows - k
@@ -23,14 +23,14 @@ mul-dot c =
     let s = c .before .before in
     let loop = c .before .loop in
     let loop-test = c .loop-test in
-    omega (arith, s .good, dots-place (s .pre) (loop .k) (loop-test .taken) .0)
+    omega (arith, s .good, box-place (s .pre) (loop .k) (loop-test .taken) .0)
 
 add-dot : tie.Need-add-dot Inv-loop μ-loop
 add-dot c =
     let s = c .before .before in
     let loop = c .before .loop in
     let loop-test = c .loop-test in
-    omega (arith, s .good, dots-place (s .pre) (loop .k) (loop-test .taken) .0)
+    omega (arith, s .good, box-place (s .pre) (loop .k) (loop-test .taken) .0)
 
 sub-dot : tie.Need-sub-dot Inv-loop μ-loop
 sub-dot c = omega (arith, c .loop-test .taken)
@@ -43,21 +43,21 @@ mul-dot-2 c =
     let s = c .before .before in
     let loop = c .before .loop in
     let loop-test = c .loop-test in
-    omega (arith, s .good, dots-place (s .pre) (loop .k) (loop-test .taken) .1)
+    omega (arith, s .good, box-place (s .pre) (loop .k) (loop-test .taken) .1)
 
 add-dot-2 : tie.Need-add-dot-2 Inv-loop μ-loop
 add-dot-2 c =
     let s = c .before .before in
     let loop = c .before .loop in
     let loop-test = c .loop-test in
-    omega (arith, s .good, dots-place (s .pre) (loop .k) (loop-test .taken) .1)
+    omega (arith, s .good, box-place (s .pre) (loop .k) (loop-test .taken) .1)
 
 dot-requires : tie.Need-dot-requires Inv-loop μ-loop
 dot-requires c κs =
     let s = c .before .before in
     let loop = c .before .loop in
     let loop-test = c .loop-test in
-    dots-turn (s .pre) (loop .k) (loop-test .taken) (folded-room (loop .inv) (loop-test .taken) (s .pre .room))
+    dot-turn (box-turn (s .pre) (loop .k) (loop-test .taken) (loop .inv))
 
 add-k : tie.Need-add-k Inv-loop μ-loop
 add-k c = fits-le (omega (arith, c .before .loop-test .taken)) (c .before .before .before .fits .rows)
@@ -67,14 +67,16 @@ loop-less c = omega (arith, c .before .loop-test .taken)
 
 loop-again : tie.Need-loop-again Inv-loop μ-loop
 loop-again c =
+    let s = c .before .before .before in
     let loop = c .before .before .loop in
     let loop-test = c .before .loop-test in
-    folded-next (loop .inv) (loop-test .taken) refl (c .dot .ensures)
+    folded-next (loop .inv) (loop-test .taken) refl (dot-end (box-turn (s .pre) (loop .k) (loop-test .taken) (loop .inv)) (c .dot .ensures))
 
 returns : tie.Need-returns Inv-loop μ-loop
 returns c =
+    let s = c .before .before in
     let loop = c .before .loop in
-    folded-end (loop .inv) (omega (arith, c .loop-test .left))
+    box-end (s .pre) (loop .inv) (omega (arith, c .loop-test .left))
 
 pub dots-spec : {M : Type 1} → statement M
 dots-spec =

@@ -8,7 +8,7 @@ use Rattle.kernel.proofs.views.leading.Reads as reads
 use Rattle.kernel.proofs.views.leading.Lts as lts
 use Rattle.kernel.proofs.numbers.shape_of.Reads as shape-of-reads
 use Rattle.kernel.proofs.sums.view_number.Reads as view-number-reads
-use Rattle.kernel.proofs.views.top.Reads as top-reads
+use Rattle.kernel.proofs.views.leading_words.Reads as leading-words-reads
 use Rattle.tower.proofs.words.count_at.Reads as count-at-reads
 
 view-number-requires : tie.Need-view-number-requires
@@ -52,8 +52,8 @@ count-at-requires-2 c κs =
     ready-b (toZ w64 (ofZ w64 (s .args .p))) _ (s .args .e) (s .args .t .now) (s .args .a .now) (s .args .b .now)
     (view-number .result) (view-number .ensures) (if1 .left) (shape-of .result) (shape-of .ensures) .0
 
-top-requires : tie.Need-top-requires
-top-requires c κs =
+leading-words-requires : tie.Need-leading-words-requires
+leading-words-requires c κs =
     let s = c .before .before .before .before .before .before in
     let view-number = c .before .before .before .before .before .view-number in
     let if1 = c .before .before .before .before .if1 in
@@ -70,14 +70,14 @@ returns-2 c =
     let count-at = c .before .before .before .count-at in
     let count-at2 = c .before .before .count-at2 in
     let if2 = c .before .if2 in
-    let top = c .top in
+    let leading-words = c .leading-words in
     leading-plain (s .args .e) (s .args .t .now) (s .args .a .now) (s .args .b .now) _ (s .fits .p) (s .fits .n)
     (shown-b (toZ w64 (ofZ w64 (s .args .p))) _ (s .args .e) (s .args .t .now) (s .args .a .now) (s .args .b .now)
     (view-number .result) (view-number .ensures) (if1 .left) (shape-of .result) (shape-of .ensures)
-    (count-at .result) (count-at2 .result) (count-at .ensures) (count-at2 .ensures) _ (if2 .taken) (top .ensures))
+    (count-at .result) (count-at2 .result) (count-at .ensures) (count-at2 .ensures) _ (if2 .taken) (leading-words .ensures))
 
-top-requires-2 : tie.Need-top-requires-2
-top-requires-2 c κs =
+leading-words-requires-2 : tie.Need-leading-words-requires-2
+leading-words-requires-2 c κs =
     let s = c .before .before .before .before .before .before in
     let view-number = c .before .before .before .before .before .view-number in
     let if1 = c .before .before .before .before .if1 in
@@ -94,11 +94,11 @@ returns-3 c =
     let count-at = c .before .before .before .count-at in
     let count-at2 = c .before .before .count-at2 in
     let if2 = c .before .if2 in
-    let top2 = c .top2 in
+    let leading-words2 = c .leading-words2 in
     leading-plain (s .args .e) (s .args .t .now) (s .args .a .now) (s .args .b .now) _ (s .fits .p) (s .fits .n)
     (shown-a (toZ w64 (ofZ w64 (s .args .p))) _ (s .args .e) (s .args .t .now) (s .args .a .now) (s .args .b .now)
     (view-number .result) (view-number .ensures) (if1 .left) (shape-of .result) (shape-of .ensures)
-    (count-at .result) (count-at2 .result) (count-at .ensures) (count-at2 .ensures) _ (if2 .left) (top2 .ensures))
+    (count-at .result) (count-at2 .result) (count-at .ensures) (count-at2 .ensures) _ (if2 .left) (leading-words2 .ensures))
 
 pub leading-spec : {M : Type 1} → statement M
 leading-spec =
@@ -110,7 +110,7 @@ leading-spec =
     shape-of-requires
     count-at-requires
     count-at-requires-2
-    top-requires
+    leading-words-requires
     returns-2
-    top-requires-2
+    leading-words-requires-2
     returns-3)

@@ -1,10 +1,10 @@
 use native.Mathlib.Omega.{arith}
 use Rattle.kernel.proofs.Viewing.{top-none, top-ends, top-is}
 use borrow.Author.Needs.{needs}
-use Rattle.kernel.proofs.views.top.Statement.{statement}
-use Rattle.kernel.proofs.views.top.Tie as tie
-use Rattle.kernel.proofs.views.top.Reads as reads
-use Rattle.kernel.proofs.views.top.Lts as lts
+use Rattle.kernel.proofs.views.leading_words.Statement.{statement}
+use Rattle.kernel.proofs.views.leading_words.Tie as tie
+use Rattle.kernel.proofs.views.leading_words.Reads as reads
+use Rattle.kernel.proofs.views.leading_words.Lts as lts
 use Rattle.tower.proofs.form.coefficient_at.Reads as coefficient-at-reads
 use Rattle.tower.proofs.words.count_at.Reads as count-at-reads
 
@@ -69,8 +69,8 @@ returns-2 c =
     let coefficient-at = c .before .coefficient-at in
     top-is (s .args .s) (s .args .a .now) (count-at .result) (count-at .ensures) (if1 .left) (coefficient-at .result) (coefficient-at .ensures)
 
-pub top-spec : {M : Type 1} → statement M
-top-spec =
+pub leading-words-spec : {M : Type 1} → statement M
+leading-words-spec =
     tie.close
     (tie.spec
     count-at-requires

@@ -1,0 +1,97 @@
+-- `arithmetic::walk::box4` meets its contract. The loop has added the first k turns. Assumes nothing.
+use mathlib.Core.Path.{refl}
+use mathlib.Core.List.{[], _∷_}
+use Prim.Native.Nat.{_-_}
+use native.Mathlib.Omega.{arith}
+use mir.Facts.{fits-le}
+use Rattle.arithmetic.proofs.Walks.{folded-start, folded-next}
+use Rattle.arithmetic.proofs.Boxes.{Turns, box-place, box-turn, box-end}
+use Rattle.arithmetic.proofs.walk.box4.Statement.{statement}
+use Rattle.arithmetic.proofs.walk.box4.Tie as tie
+
+abbrev Inv-loop : tie.InvT-loop
+Inv-loop x a y b n3 s3 n2 s2 n1 s1 n0 s0 r₀ k₀ r k = Turns x y a b n3 s3 ((n2, s2) ∷ (n1, s1) ∷ (n0, s0) ∷ []) (r₀ .lo) (r₀ .hi) k (r .lo) (r .hi)
+
+abbrev μ-loop : tie.MeasureT-loop
+μ-loop x a y b n3 s3 n2 s2 n1 s1 n0 s0 r₀ k₀ r k = n3 - k
+
+loop-holds : tie.Need-loop-holds Inv-loop μ-loop
+loop-holds c = folded-start
+
+mul-box3 : tie.Need-mul-box3 Inv-loop μ-loop
+mul-box3 c =
+    let s = c .before .before in
+    let loop = c .before .loop in
+    let loop-test = c .loop-test in
+    omega (arith, s .good, box-place (s .pre) (loop .k) (loop-test .taken) .0)
+
+add-box3 : tie.Need-add-box3 Inv-loop μ-loop
+add-box3 c =
+    let s = c .before .before in
+    let loop = c .before .loop in
+    let loop-test = c .loop-test in
+    omega (arith, s .good, box-place (s .pre) (loop .k) (loop-test .taken) .0)
+
+sub-box3 : tie.Need-sub-box3 Inv-loop μ-loop
+sub-box3 c = omega (arith, c .loop-test .taken)
+
+sub-box3-2 : tie.Need-sub-box3-2 Inv-loop μ-loop
+sub-box3-2 c = omega (arith, c .loop-test .taken)
+
+mul-box3-2 : tie.Need-mul-box3-2 Inv-loop μ-loop
+mul-box3-2 c =
+    let s = c .before .before in
+    let loop = c .before .loop in
+    let loop-test = c .loop-test in
+    omega (arith, s .good, box-place (s .pre) (loop .k) (loop-test .taken) .1)
+
+add-box3-2 : tie.Need-add-box3-2 Inv-loop μ-loop
+add-box3-2 c =
+    let s = c .before .before in
+    let loop = c .before .loop in
+    let loop-test = c .loop-test in
+    omega (arith, s .good, box-place (s .pre) (loop .k) (loop-test .taken) .1)
+
+box3-requires : tie.Need-box3-requires Inv-loop μ-loop
+box3-requires c κs =
+    let s = c .before .before in
+    let loop = c .before .loop in
+    let loop-test = c .loop-test in
+    box-turn (s .pre) (loop .k) (loop-test .taken) (loop .inv)
+
+add-k : tie.Need-add-k Inv-loop μ-loop
+add-k c = fits-le (omega (arith, c .before .loop-test .taken)) (c .before .before .before .fits .n3)
+
+loop-less : tie.Need-loop-less Inv-loop μ-loop
+loop-less c = omega (arith, c .before .loop-test .taken)
+
+loop-again : tie.Need-loop-again Inv-loop μ-loop
+loop-again c =
+    let loop = c .before .before .loop in
+    let loop-test = c .before .loop-test in
+    folded-next (loop .inv) (loop-test .taken) refl (c .box3 .ensures)
+
+returns : tie.Need-returns Inv-loop μ-loop
+returns c =
+    let s = c .before .before in
+    let loop = c .before .loop in
+    box-end (s .pre) (loop .inv) (omega (arith, c .loop-test .left))
+
+pub box4-spec : {M : Type 1} → statement M
+box4-spec =
+    tie.close
+    (tie.spec
+    Inv-loop
+    μ-loop
+    loop-holds
+    mul-box3
+    add-box3
+    sub-box3
+    sub-box3-2
+    mul-box3-2
+    add-box3-2
+    box3-requires
+    add-k
+    loop-less
+    loop-again
+    returns)
