@@ -2,6 +2,7 @@
 -- g, made monic if not zero). The answer is the first. To make monic is to multiply by the inverse of the leading coefficient."
 --
 -- Made, nil, made  == zero, or a monic polynomial; with what it carries.  val == as an element of R[z]
+-- madeCount, madeCoefficients == how many coefficients it has, and these
 -- make, start      == to make monic; the sequence on two that are made
 -- gcd-with         == the whole of it, with something carried;  gcd == with nothing carried
 -- Gcd R a b g      == demand 3: g is monic, zero exactly when a and b are, a polynomial divides g precisely when it divides a and b
@@ -30,6 +31,15 @@ pub data Made (A X : Type 0) : Type 0 where
 
 abbrev pub wrap : {A X : Type 0} → Ended A X → Made A X
 wrap r = made (r .degree) (r .low) (r .carried)
+
+-- the coefficients up to the leading one
+abbrev pub madeCount : {A X : Type 0} → Made A X → ℕ
+madeCount (nil x) = 0
+madeCount (made d w x) = suc d
+
+abbrev pub madeCoefficients : (R : CRing) {X : Type 0} → Made (R .Car) X → ℕ → R .Car
+madeCoefficients R (nil x) = λ j. R .𝟘
+madeCoefficients R (made d w x) = coef (R .𝟘) (suc d) (topped d w (R .𝟙))
 
 module _ (R : CRing) where
   open CRing (PolyRing R) using (𝟘 as 0ᴷ)

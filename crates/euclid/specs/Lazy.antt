@@ -1,7 +1,7 @@
 -- The sequence as a program follows it that does not scale its polynomials: beside each one it keeps the inverse of the leading coefficient, `unit`. The
 -- sequence's polynomial is unit times the one that is kept, and so is what it carries.
 --
--- Led, led, whole, UnitLed      == a polynomial so kept; its coefficients with the leading one; unit is the inverse of that
+-- Led, led, whole, UnitLed      == a polynomial so kept; its coefficients with the leading one; unit is the inverse of that;  unit-times == times unit nothing becomes zero
 -- rest, quot R f g              == the remainder and the quotient of f by g as they are kept
 -- Linear R C                    == what is carried may be scaled later;  nothing-linear
 -- lazy k f g                    == the sequence of at most k remainders on unit times f and unit times g;  next == the pair (f, g) becomes (g, next)
@@ -112,7 +112,7 @@ module _ (R : CRing) where
   monic-whole f h = ap (topped (f .degree) _) (sym h) ∙ sym (map-topped (λ x. f .unit ⊗ x) (f .degree) (f .low) (f .top))
 
   -- a unit times what is not zero is not zero
-  unit-times : {X : Type 0} (f : Led Car X) → UnitLed R f → (c : Car) → ¬ (c ≡ 𝟘) → ¬ (f .unit ⊗ c ≡ 𝟘)
+  pub unit-times : {X : Type 0} (f : Led Car X) → UnitLed R f → (c : Car) → ¬ (c ≡ 𝟘) → ¬ (f .unit ⊗ c ≡ 𝟘)
   unit-times f h c nz z =
       nz (sym (one-⊗ R c) ∙ ap (λ x. x ⊗ c) (sym h) ∙ solve₃ R (f .unit) (f .top) c (λ u t c. u :* t :* c ≐ t :* (u :* c)) refl
       ∙ ap (λ x. f .top ⊗ x) z ∙ ⊗-zero R _)

@@ -28,7 +28,7 @@ use Rattle.tower.specs.Levels.{ring, one-not-zero}
 use Rattle.tower.specs.Limits.{pOk, p-positive, degreesOf}
 use Rattle.euclid.specs.Answer.{Answer, done as done-with, shown, long, Holds}
 use Rattle.euclid.specs.Demand.{gcd-done as given-is, gcd-shown as shown-is, gcd-zero, gcd-unique}
-use Rattle.euclid.specs.Gcd.{Made, nil, made, val, Gcd, nothing}
+use Rattle.euclid.specs.Gcd.{Made, nil, made, madeCoefficients, val, Gcd, nothing}
 use Rattle.euclid.specs.Level.{Good}
 use Rattle.euclid.specs.Shown.{shownWords}
 use Rattle.euclid.specs.Steps.{Low, gcd-low}
@@ -37,7 +37,7 @@ use Rattle.kernel.specs.Answered.{towerIn, levelOf}
 use Rattle.kernel.specs.Calls.{coefficientsOf, formOk}
 use Rattle.kernel.specs.DivisionAnswers.{Monic}
 use Rattle.kernel.specs.GcdAnswers.{GcdMeans, gcd-says, gcdAnswer, gcd-words, gcd-sequence, gcd-ends, gcd-by}
-use Rattle.kernel.specs.Gcds.{gcdRoom, gcdNeeded, gcdNumber, madeCoefficients, GcdWords, gcdBy, gcd}
+use Rattle.kernel.specs.Gcds.{gcdRoom, gcdNeeded, gcdNumber, GcdWords, gcdBy, gcd}
 use Rattle.kernel.specs.InverseAnswers.{ElementOf}
 use Rattle.kernel.specs.Meaning.{TowerHeld, ones}
 use Rattle.kernel.specs.Refusals.{done, factor, refused}

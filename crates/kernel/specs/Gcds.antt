@@ -3,24 +3,21 @@
 --
 -- gcdRoom             == the coefficients that the answer's slot needs;  gcdNeeded == the work words
 -- gcdTable, gcdNumber == the tests in the order of their numbers, and the number that they give
--- madeCoefficients    == the coefficients of zero, or of a monic polynomial
 -- gcdWords            == what the sequence's answer leaves of the lent words
 -- gcd                 == what the call gives, and the words of g, of f and of the work store afterwards
-use Prim.Native.Nat.{ℕ, suc, max}
+use Prim.Native.Nat.{ℕ, max}
 use mathlib.Core.Bool.{_&&_}
 use mathlib.Core.List.{List, [], _∷_, _++_}
 use lib.IntN.{ℤ}
 use lib.Dec.{T, leb}
 use lib.ListN.{length}
-use Rattle.algebra.specs.Ring.{CRing}
 use Rattle.algebra.specs.Test.{branch}
-use Rattle.algebra.specs.Vec.{coef, topped}
 use Rattle.residue.specs.Word.{num}
 use Rattle.tower.specs.Levels.{El}
 use Rattle.tower.specs.Limits.{pOk, p-positive, degreesOf}
 use Rattle.tower.specs.Work.{gcdWork}
 use Rattle.euclid.specs.Answer.{Answer, done as done-with, shown, long}
-use Rattle.euclid.specs.Gcd.{Made, nil, made, gcd as gcd-of}
+use Rattle.euclid.specs.Gcd.{Made, madeCoefficients, gcd as gcd-of}
 use Rattle.euclid.specs.Shown.{shownWords}
 use Rattle.euclid.specs.Towers.{Shown, level-of}
 use Rattle.kernel.specs.Answered.{answered, factorBuffer, towerIn, levelOf}
@@ -49,11 +46,6 @@ gcdTable p n e t a b g f v =
 
 unfoldable pub gcdNumber : (p n : ℤ) (e t a b g f v : List ℤ) → ℕ
 gcdNumber p n e t a b g f v = first (gcdTable p n e t a b g f v)
-
--- the coefficients of zero, or of the monic polynomial with d coefficients under its leading 1
-abbrev pub madeCoefficients : (R : CRing) → Made (R .Car) (Unit {0}) → ℕ → R .Car
-madeCoefficients R (nil x) = λ j. R .𝟘
-madeCoefficients R (made d w x) = coef (R .𝟘) (suc d) (topped d w (R .𝟙))
 
 -- the words that the call may change: g's slot, the factor buffer and the work store
 pub record GcdWords : Type 0 where

@@ -1,6 +1,6 @@
 -- Laws of the product of slots: each coefficient is a sum of products made in the store and copied out.
 --
--- part-of-slot                 == the coefficients of a slot stand behind its degree word;  zeros-stand == zeros written stand there
+-- part-of-slot                 == the coefficients of a slot stand behind its degree word
 -- below-count, slots-kept      == a polynomial is zero from its count on;  a store as long serves as well
 -- times, placed, words-many    == multiples of a size; places; n elements have at least n words
 -- count-left, count-both       == how many coefficients a product has
@@ -21,36 +21,25 @@ use lib.ListN.{length}
 use Rattle.algebra.specs.Test.{le-or-lt}
 use Rattle.algebra.specs.Ring.{CRing, zero-⊕}
 use Rattle.algebra.specs.Series.{_*ˢ_}
-use Rattle.algebra.specs.Vec.{Vec, Below, coef, coef-zero, zeroᵛ, trunc-at}
+use Rattle.algebra.specs.Vec.{Vec, Below, coef, trunc-at}
 use Rattle.algebra.specs.Windows.{first, span, span-left, span-right, sum-zero, sum, product-at}
-use Rattle.tower.specs.Levels.{El, group, zero-test, Tower, ring}
+use Rattle.tower.specs.Levels.{El, group, Tower, ring}
 use Rattle.tower.specs.Writing.{size, size-pos, write, slot-long, degreeCount}
-use Rattle.tower.specs.Form.{seg, copies, zeroWords, inForm}
+use Rattle.tower.specs.Form.{seg, copies, zeroWords}
 use Rattle.tower.specs.Lists.{seg-long, copies-long}
-use Rattle.tower.specs.Coding.{writes-zero}
 use Rattle.tower.specs.Store.{Kept, Put, kept-refl, kept-trans, kept-wide, kept-join, kept-seg, put-kept, put-seg}
 use Rattle.tower.specs.Stands.{Stands, SlotStands, zero-long, count-few, degree-told}
-use Rattle.tower.specs.Unique.{coding}
 use Rattle.arithmetic.specs.Rows.{block-inside, behind, run-block, run-of, Settled}
 use Rattle.arithmetic.specs.Sum.{gained}
 use Rattle.products.specs.Value.{value-pairs}
 use Rattle.products.specs.Product.{work, TowerStands, Two, two, Given, Pairs, ProductReady, ProductDone}
-use Rattle.products.proofs.Frames.{parts-fit, worked-kept}
+use Rattle.products.proofs.Frames.{parts-fit, worked-kept, zeros-stand}
 use Rattle.polynomials.specs.Slots.{productCount, slotProduct, SlotsReady, FinishReady, Finished, MultiplyReady, Multiplied, MultiplyAtReady, MultipliedAt}
 
 -- ---- slots
 pub part-of-slot : (p : ℕ) (p-pos : 0 < p) (d : List ℕ) (i k : ℕ) (v : Vec (El p d i) k) (x : List ℤ) → SlotStands p d i k v x 0
     → (n : ℕ) → n < k → Stands p d i (coef (group p p-pos d i .𝟘) k v n) x (1 + n * size d i)
 part-of-slot p p-pos d i k v x s n h = run-block p p-pos d i k v x 1 (behind p d i k v x 0 s) n h
-
-pub zeros-stand : (p : ℕ) (p-pos : 0 < p) (d : List ℕ) (i n : ℕ) (w w′ : List ℤ) (a : ℕ) → Put a (copies n (zeroWords d i)) w w′
-    → (k : ℕ) → k < n → Stands p d i (group p p-pos d i .𝟘) w′ (a + k * size d i)
-zeros-stand p p-pos d i n w w′ a h k l =
-    run-block p p-pos d i n (zeroᵛ (group p p-pos d i .𝟘) n) w′ a
-    (put-seg (n * size d i) (copies-long n (size d i) (zeroWords d i) (zero-long d i)) h
-    ∙ sym (writes-zero (zero-test p p-pos d i) (size d i) (zeroWords d i) (inForm p d i) (coding p p-pos d i) n))
-    k l
-    ∙ ap (write p d i) (coef-zero (group p p-pos d i .𝟘) n k)
 
 -- a polynomial is zero from its count on
 pub below-count : (p : ℕ) (p-pos : 0 < p) (d : List ℕ) (i k : ℕ) (v : Vec (El p d i) k) (x : List ℤ) (c : ℕ) → c ≡ degreeCount x → SlotStands p d i k v x 0

@@ -3,6 +3,7 @@
 -- worked-trans, worked-answer, worked-above, worked-wide == two after another; only the answer's words; only those from top on; a part of the answer
 -- Same b l w w′           == the l words from b on are as before;  kept-same, worked-same == those outside a frame are
 -- SameIn, picked-seg      == the same of an operand, where it is in the store;  elements-picked, inside-kept, operating-kept == so it is as it was
+-- zeros-stand             == zeros written stand there
 -- tower-kept, lefts-kept, rights-kept, given-kept == what stands below top stays while words from top on change
 use Prim.Native.Nat.{ℕ, suc, _+_, _*_, _<_, _≤_}
 use native.Mathlib.Nat.{mul-le-mul-right, add-mul}
@@ -14,11 +15,16 @@ use mathlib.Core.List.{List}
 use lib.IntN.{ℤ, pos}
 use lib.ListN.{length, getD}
 use Rattle.algebra.specs.Test.{le-or-lt}
-use Rattle.tower.specs.Levels.{El, Tower}
-use Rattle.tower.specs.Writing.{size, towerSize}
-use Rattle.tower.specs.Form.{seg}
-use Rattle.tower.specs.Store.{Kept, seg-kept}
-use Rattle.arithmetic.specs.Rows.{block-inside}
+use Rattle.algebra.specs.Vec.{coef-zero, zeroᵛ}
+use Rattle.tower.specs.Levels.{El, group, zero-test, Tower}
+use Rattle.tower.specs.Writing.{size, towerSize, write}
+use Rattle.tower.specs.Form.{seg, copies, zeroWords, inForm}
+use Rattle.tower.specs.Lists.{copies-long}
+use Rattle.tower.specs.Coding.{writes-zero}
+use Rattle.tower.specs.Store.{Kept, Put, seg-kept, put-seg}
+use Rattle.tower.specs.Stands.{Stands, zero-long}
+use Rattle.tower.specs.Unique.{coding}
+use Rattle.arithmetic.specs.Rows.{block-inside, run-block}
 use Rattle.arithmetic.specs.Walk.{pick}
 use Rattle.products.specs.Product.{Worked, TowerStands, Elements, Two, left, right, Inside, Given, Operating}
 
@@ -150,3 +156,13 @@ module _ {d z : List ℕ} {p : ℕ} {o : Two} {w w′ : List ℤ} {top m : ℕ} 
     kept = λ e. same-seg (kept-same c (size d j) (inl l) f) ∙ h .kept e;
     fresh = h .fresh;
   }
+
+-- ---- zeros that were written
+pub zeros-stand : (p : ℕ) (p-pos : 0 < p) (d : List ℕ) (i n : ℕ) (w w′ : List ℤ) (a : ℕ) → Put a (copies n (zeroWords d i)) w w′
+    → (k : ℕ) → k < n → Stands p d i (group p p-pos d i .𝟘) w′ (a + k * size d i)
+zeros-stand p p-pos d i n w w′ a h k l =
+    run-block p p-pos d i n (zeroᵛ (group p p-pos d i .𝟘) n) w′ a
+    (put-seg (n * size d i) (copies-long n (size d i) (zeroWords d i) (zero-long d i)) h
+    ∙ sym (writes-zero (zero-test p p-pos d i) (size d i) (zeroWords d i) (inForm p d i) (coding p p-pos d i) n))
+    k l
+    ∙ ap (write p d i) (coef-zero (group p p-pos d i .𝟘) n k)

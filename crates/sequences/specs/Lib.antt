@@ -1,0 +1,5 @@
+pub mod Rows
+pub mod Numbers
+pub mod Starts
+pub mod Outcomes
+pub mod Gcds
