@@ -11,7 +11,7 @@
 use Rattle.kernel.proofs.Order.{then-first, then-next, zero-of}
 use Rattle.kernel.proofs.Shapes.{size-found, slot-words}
 use Rattle.kernel.proofs.Summing.{refused-by, done-by}
-use Rattle.kernel.proofs.Slotting.{slots-passed, count-low, tower-holds, a-holds, b-holds, a-long, c-long, slots-ready, work-fits, work-none, store-fits}
+use Rattle.kernel.proofs.Slotting.{slots-passed, count-words, tower-holds, a-holds, b-holds, a-long, c-long, slots-ready, work-fits, work-none, store-fits}
 use Rattle.kernel.proofs.Slotting.{put-whole, cleared-none, cleared-by}
 use Rattle.kernel.specs.Calls.{sizeOf, coefficientsOf, shapeTable, shapeNumber}
 use Rattle.kernel.specs.Divisions.{divisorDegree, monicWords, monicRow, divisionTable, divisionNumber}
@@ -255,7 +255,7 @@ module _ (p n : ℤ) (e t a b q v : List ℤ) (g : Tested p n e t a b q v (quoti
 
   -- it has few words
   few-words : degreeCount b * sizeOf n e ≤ 2 ^ 31
-  few-words = omega (arith, mul-le-mul-right (sizeOf n e) (count-low p n e b modulus (g .long-b) (g .form-b)), g .tower .range .shape .few)
+  few-words = count-words p n e b modulus (g .long-b) (g .form-b) (g .tower .range .shape .few)
 
   module _ (a′ q′ w w′ : List ℤ) (P : Parted (num n) ka kq (degreesOf e) (num p) t a a′ b q q′ w w′) where
     -- the remainder is written over a's slot, the quotient over q's

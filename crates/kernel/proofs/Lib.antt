@@ -9,3 +9,8 @@ pub mod Summing
 pub mod Slotting
 pub mod Multiplying
 pub mod Dividing
+pub mod Showing
+pub mod Inverting
+pub mod Seeking
+pub mod Finding
+pub mod Giving

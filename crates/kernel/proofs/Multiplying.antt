@@ -7,7 +7,7 @@
 use Rattle.kernel.proofs.Order.{zero-of}
 use Rattle.kernel.proofs.Shapes.{size-found}
 use Rattle.kernel.proofs.Slotting.{slots-passed, slots-shape, slots-plain, shape-sized, shape-low, shape-work}
-use Rattle.kernel.proofs.Slotting.{tower-holds, a-holds, b-holds, a-long, c-long, count-low, put-whole}
+use Rattle.kernel.proofs.Slotting.{tower-holds, a-holds, b-holds, a-long, c-long, count-words, put-whole}
 use Rattle.kernel.proofs.Summing.{refused-by, done-by}
 use Rattle.kernel.specs.Calls.{sizeOf, coefficientsOf, shapeNumber}
 use Rattle.kernel.specs.Products.{ProductWords, productNumber, productOf, productWords}
@@ -33,7 +33,6 @@ use mathlib.Core.Path.{_≡_, sym, ap, _∙_, subst, subst₂, subst₃}
 use mathlib.Core.Bool.{false}
 use mathlib.Core.List.{List, []}
 use Prim.Native.Nat.{ℕ, zero, suc, _+_, _*_, _^_, _<_, _≤_}
-use native.Mathlib.Nat.{mul-le-mul-right}
 use native.Mathlib.Omega.{arith}
 use lib.IntN.{ℤ}
 use lib.ListN.{length}
@@ -79,10 +78,7 @@ module _ (p n : ℤ) (e t a b c v : List ℤ) (r : ℕ) (er : r ≡ slotsNumber 
 
     -- the first operand has few words
     a-few : degreeCount a * sizeOf n e ≤ 2 ^ 31
-    a-few =
-        let g = product-tested in
-        let many : degreeCount a * sizeOf n e ≤ 256 * sizeOf n e = mul-le-mul-right (sizeOf n e) (count-low p n e a (g .tower .range .modulus) (g .long-a) (g .form-a)) in
-        omega (arith, g .tower .range .shape .few)
+    a-few = let g = product-tested in count-words p n e a (g .tower .range .modulus) (g .long-a) (g .form-a) (g .tower .range .shape .few)
 
     -- what the core asks for, and what it leaves
     ready-plain : (z : List ℕ) (w : List ℤ) → Sized (degreesOf e) z → num n ≤ 4 → size (degreesOf e) (num n) + work (degreesOf e) (num n) ≤ length w

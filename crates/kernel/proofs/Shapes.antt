@@ -77,6 +77,10 @@ module _ (p n : ℤ) (e : List ℤ) (s : Shape) (is : ShapeOf n e s) (q : ℕ) (
   pub size-found : s .size ≡ size (degreesOf e) (num n)
   size-found = is .known .is-size ∙ ap₂ size (is .degrees) (is .levels)
 
+  -- and of a level
+  pub level-size : (l : ℕ) → l ≤ 4 → (k : ℕ) → k ≡ getD (s .sizes) l 0 → k ≡ size (degreesOf e) l
+  level-size l h k ek = ek ∙ is .known .sized .at l h ∙ ap (λ d. size d l) (is .degrees)
+
   slot-found : (a : List ℤ) (b : Bool) → b ≡ slotForm q (s .degrees) (s .levels) (slotCount (s .size) (length a)) a
       → b ≡ slotForm (num p) (degreesOf e) (num n) (slotCount (s .size) (length a)) a
   slot-found a b eb = eb ∙ λ i. slotForm (eq i) (is .degrees i) (is .levels i) (slotCount (s .size) (length a)) a

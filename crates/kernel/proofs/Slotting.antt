@@ -5,41 +5,44 @@
 -- three-allowed, three-some    == three slots of allowed lengths, and that they have words
 -- slots-passed                 == no number: everything is tested;  slots-shape == N and the degrees are in range
 -- slots-plain, slots-ready     == the core may work: with the numbers as they were handed over, and with the values that the calls gave
--- tower-holds, a-holds, b-holds == the tower and the two polynomials stand;  a-long, b-long, c-long == the lengths of the slots;  count-low == few coefficients
+-- held-stands, held-length, held-modulus, held-positive == a tower that is held: its words stand and are all, its modulus and its degrees
+-- tower-holds, a-holds, b-holds == the tower and the two polynomials stand;  a-long, b-long, c-long == the lengths of the slots;
+-- allowed-long, count-low, count-words == a slot of an allowed length: its words, few coefficients, few words of those that its degree word counts
 -- work-fits, work-none, store-fits == an element and the words that a product uses fit the work store;  at level 0 they are one word
 -- put-whole                    == a slot that is written as a whole
--- cleared-none, cleared-by     == the work store after Done: at level 0, and else;  clear-room, store-cleared == with the values that the calls gave
+-- cleared-nothing, cleared-none, cleared-by == the work store after Done: nothing needed, at level 0, and else
+-- clear-room, store-cleared == with the values that the calls gave
 use Rattle.kernel.proofs.Order.{then-first, then-next, zero-of, zero-then, seg-all}
 use Rattle.kernel.proofs.Shapes.{size-found, tower-zero}
-use Rattle.kernel.proofs.Viewing.{and-split}
+use Rattle.kernel.proofs.Viewing.{and-split, forms-found}
 use Rattle.kernel.specs.Calls.{sizeOf, coefficientsOf, lengthOk, formOk, towerTable, towerNumber, shapeNumber}
-use Rattle.kernel.specs.Meaning.{tower-numbered, tower-says, ones}
+use Rattle.kernel.specs.Meaning.{TowerHeld, tower-numbered, tower-says, ones}
 use Rattle.kernel.specs.Refusals.{Table, first-append, unless, andThen, passed-of, ordered-numbered}
 use Rattle.kernel.specs.Shape.{ShapeOf}
-use Rattle.kernel.specs.SlotLaws.{Tested, tested, held-few, cleared-words}
+use Rattle.kernel.specs.SlotLaws.{Tested, tested, tower-is, held-few, cleared-words}
 use Rattle.kernel.specs.SlotMeaning.{room-iff, room-count}
 use Rattle.kernel.specs.Slots.{degreeCount, polynomialOf, roomNeeded, slotsTable, slotsNumber, cleared}
 use Rattle.kernel.specs.declared.Shape.{Shape}
 use Rattle.polynomials.specs.Slots.{SlotsReady}
 use Rattle.products.specs.Product.{work, work-zero, work-suc, TowerStands}
 use Rattle.arithmetic.specs.Places.{wide}
+use Rattle.residue.specs.Number.{Modulus}
 use Rattle.residue.specs.Word.{num}
 use Rattle.tower.proofs.Lengths.{length-is}
 use Rattle.tower.specs.Form.{slotForm, copies}
 use Rattle.tower.specs.Levels.{degree}
 use Rattle.tower.specs.Limits.{pOk, p-positive, p-narrow, degreesOf, slotLength, slotCount}
 use Rattle.tower.specs.Lists.{of-true, to-true, copies-long}
-use Rattle.tower.specs.Ready.{Sized}
+use Rattle.tower.specs.Ready.{Sized, Positive}
 use Rattle.tower.specs.Stands.{SlotStands, slot-stands}
 use Rattle.tower.specs.Store.{Kept, Put, kept-trans, kept-wide, put-unique}
-use Rattle.tower.specs.TowerUnique.{towerOf-words}
 use Rattle.tower.specs.Work.{productWork, productWork-suc}
 use Rattle.tower.specs.Writing.{size, size-pos, size-zero, size-suc, towerSize, towerWords, towerOf, tower-long}
 use borrow.Author.Tests.{le-leb, lt-leb}
 use mathlib.Core.Path.{_≡_, refl, sym, ap, ap₂, _∙_, subst, subst₃}
 use mathlib.Core.Bool.{Bool, true, false, _&&_}
 use mathlib.Core.List.{List, [], _∷_}
-use Prim.Native.Nat.{ℕ, zero, suc, _+_, _-_, _*_, _<_, _≤_}
+use Prim.Native.Nat.{ℕ, zero, suc, _+_, _-_, _*_, _^_, _<_, _≤_}
 use native.Mathlib.Nat.{mul-le-mul-right}
 use native.Mathlib.Omega.{arith}
 use lib.IntN.{ℤ, pos}
@@ -85,12 +88,19 @@ module _ (s j k l : ℕ) (x : Bool) (ex : x ≡ (slotLength s j && (slotLength s
       let h = three-allowed in
       (omega (arith, length-is s j (h .0)), omega (arith, length-is s k (h .1)), omega (arith, length-is s l (h .2)))
 
+-- a slot of an allowed length has a degree word and its coefficients
+pub allowed-long : (n : ℤ) (e x : List ℤ) → T (lengthOk n e x) → 1 + coefficientsOf n e x * sizeOf n e ≡ length x
+allowed-long n e x l = sym (length-is (sizeOf n e) (length x) (to-true _ l) ∙ omega arith)
+
 -- a slot of an allowed length has few coefficients, and its degree word counts no more
 module _ (p n : ℤ) (e x : List ℤ) (h : T (pOk p)) (l : T (lengthOk n e x)) (f : T (formOk p n e x)) where
   pub count-low : degreeCount x ≤ 256
   count-low =
       let r = room-iff (sizeOf n e) (length x) (size-pos (degreesOf e) (num n)) .0 l in
       omega (arith, held-few p n e h x f, room-count (sizeOf n e) (length x) (size-pos (degreesOf e) (num n)) r, r .few)
+
+  pub count-words : sizeOf n e ≤ 2048 → degreeCount x * sizeOf n e ≤ 2 ^ 31
+  count-words small = omega (arith, mul-le-mul-right (sizeOf n e) count-low)
 
 -- ---- the numbers
 module _ (divides : Bool) (p n : ℤ) (e t a b c v : List ℤ) where
@@ -148,10 +158,7 @@ module _ (divides : Bool) (p n : ℤ) (e t a b c v : List ℤ) where
       module _ (fx : x ≡ true) (q : ℕ) (eq : q ≡ num p) (y : Bool)
           (ey : y ≡ (slotForm q (s .degrees) (s .levels) (slotCount (s .size) (length a)) a && slotForm q (s .degrees) (s .levels) (slotCount (s .size) (length b)) b)) where
         forms-told : forms ≡ y
-        forms-told =
-            sym (ey
-            ∙ λ i. slotForm (eq i) (is .degrees i) (is .levels i) (slotCount (size-is i) (length a)) a
-            && slotForm (eq i) (is .degrees i) (is .levels i) (slotCount (size-is i) (length b)) b)
+        forms-told = forms-found p n e s is q eq a b y ey
 
         pub slots-bad : y ≡ false → 5 ≡ slotsNumber divides p n e t a b c v
         slots-bad f = slots-rest h true false _ _ (lengths-told ∙ fx) (forms-told ∙ f) refl refl
@@ -215,10 +222,13 @@ work-none d = omega (arith, size-zero d, work-zero d)
 pub put-whole : (l x x′ : List ℤ) → length x ≡ length l → Put 0 l x x′ → x′ ≡ l
 put-whole l x x′ e h = sym (seg-all (length l) x′ (h .kept .long ∙ e)) ∙ h .here
 
--- the work store at level 0
+-- the work store where nothing of it is needed, as at level 0
+pub cleared-nothing : (m : ℕ) (v : List ℤ) → m ≡ 0 → v ≡ cleared m v
+cleared-nothing m v e = rw e refl
+
 pub cleared-none : (d : List ℕ) (i : ℕ) (v : List ℤ) → i ≡ 0 → v ≡ cleared (productWork d i) v
 unfolding productWork
-cleared-none d i v e = rw e refl
+cleared-none d i v e = cleared-nothing (productWork d i) v (rw e refl)
 
 -- and else: k of its words may have changed, and then m of them were cleared
 pub cleared-by : (k m : ℕ) (v v₁ v₂ : List ℤ) → k ≤ m → m ≤ length v → Kept 0 k v v₁ → Put 0 (copies m (pos 0 ∷ [])) v₁ v₂ → v₂ ≡ cleared m v
@@ -237,6 +247,28 @@ cleared-by k m v v₁ v₂ h l f g = put-unique now then
           here = take-append-seam (copies m (pos 0 ∷ [])) (drop m v);
         }
 
+-- ---- a tower is held
+module _ (p n : ℤ) (e t : List ℤ) (τ : TowerHeld p n e t) where
+  abbrev positive : 0 < num p
+  positive = p-positive p (τ .range .modulus)
+
+  -- the words are those of the tower that is read from them
+  tower-words : towerWords (num p) positive (degreesOf e) (num n) (towerOf (num p) positive (degreesOf e) (num n) t) ≡ t
+  tower-words = ap (towerWords (num p) positive (degreesOf e) (num n)) (tower-is p n e t τ) ∙ τ .held .holds
+
+  pub held-length : length t ≡ towerSize (degreesOf e) (num n)
+  held-length = ap length (sym tower-words) ∙ tower-long (num p) positive (degreesOf e) (num n) _
+
+  pub held-stands : TowerStands (num p) positive (degreesOf e) (num n) (towerOf (num p) positive (degreesOf e) (num n) t) t 0
+  held-stands = seg-all (towerSize (degreesOf e) (num n)) t held-length ∙ sym tower-words
+
+  -- the machine has room for its modulus, and its degrees are at least 1
+  pub held-modulus : Modulus (num p)
+  held-modulus = record { positive = positive; narrow = omega (arith, p-narrow p (τ .range .modulus)) }
+
+  pub held-positive : Positive (num n) (degreesOf e)
+  held-positive = record { some = ones p n e (τ .range) .degrees }
+
 -- ---- what is known where no number is given
 module _ (p n : ℤ) (e t a b c v : List ℤ) (r : ℕ) (more : Table) (g : Tested p n e t a b c v r more) where
   abbrev d : List ℕ
@@ -245,18 +277,15 @@ module _ (p n : ℤ) (e t a b c v : List ℤ) (r : ℕ) (more : Table) (g : Test
   abbrev h : T (pOk p)
   h = g .tower .range .modulus
 
-  long : (x : List ℤ) → T (lengthOk n e x) → 1 + coefficientsOf n e x * sizeOf n e ≡ length x
-  long x l = sym (length-is (sizeOf n e) (length x) (to-true _ l) ∙ omega arith)
-
   -- the lengths of the slots
   pub a-long : 1 + coefficientsOf n e a * sizeOf n e ≡ length a
-  a-long = long a (g .long-a)
+  a-long = allowed-long n e a (g .long-a)
 
   pub b-long : 1 + coefficientsOf n e b * sizeOf n e ≡ length b
-  b-long = long b (g .long-b)
+  b-long = allowed-long n e b (g .long-b)
 
   pub c-long : 1 + coefficientsOf n e c * sizeOf n e ≡ length c
-  c-long = long c (g .long-c)
+  c-long = allowed-long n e c (g .long-c)
 
   -- the polynomials and the tower stand
   pub a-holds : SlotStands (num p) d (num n) (coefficientsOf n e a) (polynomialOf p n e h (coefficientsOf n e a) a) a 0
@@ -265,29 +294,18 @@ module _ (p n : ℤ) (e t a b c v : List ℤ) (r : ℕ) (more : Table) (g : Test
   pub b-holds : SlotStands (num p) d (num n) (coefficientsOf n e b) (polynomialOf p n e h (coefficientsOf n e b) b) b 0
   b-holds = slot-stands (num p) (p-positive p h) d (num n) (coefficientsOf n e b) b (g .form-b)
 
-  -- the words are those of the tower that is read from them
-  tower-words : towerWords (num p) (p-positive p h) d (num n) (towerOf (num p) (p-positive p h) d (num n) t) ≡ t
-  tower-words =
-      let τ = g .tower .held in
-      ap (towerWords (num p) (p-positive p h) d (num n))
-      (ap (towerOf (num p) (p-positive p h) d (num n)) (sym (τ .holds)) ∙ towerOf-words (num p) (p-positive p h) d (num n) (ones p n e (g .tower .range)) (τ .this))
-      ∙ τ .holds
-
-  tower-length : length t ≡ towerSize d (num n)
-  tower-length = ap length (sym tower-words) ∙ tower-long (num p) (p-positive p h) d (num n) _
-
   pub tower-holds : TowerStands (num p) (p-positive p h) d (num n) (towerOf (num p) (p-positive p h) d (num n) t) t 0
-  tower-holds = seg-all (towerSize d (num n)) t tower-length ∙ sym tower-words
+  tower-holds = held-stands p n e t (g .tower)
 
   -- the core may work on them
   pub slots-plain : (z : List ℕ) (w : List ℤ) → Sized d z → num n ≤ 4 → size d (num n) + work d (num n) ≤ length w → SlotsReady (num n) d z (num p) t b w
   slots-plain z w sized low room = record {
-    modulus = record { positive = p-positive p h; narrow = omega (arith, p-narrow p h) };
+    modulus = held-modulus p n e t (g .tower);
     low = low;
     sized = sized;
-    positive = record { some = ones p n e (g .tower .range) .degrees };
+    positive = held-positive p n e t (g .tower);
     small = omega (arith, g .tower .range .shape .few);
-    tower-inside = omega (arith, tower-length);
+    tower-inside = omega (arith, held-length p n e t (g .tower));
     room = room;
     p-pos = p-positive p h;
     tower = towerOf (num p) (p-positive p h) d (num n) t;

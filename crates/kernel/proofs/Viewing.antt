@@ -1,6 +1,6 @@
 -- Laws of the tests of two slots and of the leading view.
 --
--- and-split, both-allowed, shape-some == two slots of allowed lengths; a coefficient has words
+-- and-split, both-allowed, shape-some == two slots of allowed lengths; a coefficient has words;  forms-found == the form of two slots
 -- view-first, view-short, view-end == the number, test by test, with the values that the calls gave
 -- top-none, top-ends, top-is   == the leading coefficient of a slot: none, where it ends, and its words
 -- shown-none                   == a number: the empty part
@@ -49,6 +49,16 @@ module _ (s : Shape) (k l : ℕ) (x : Bool) (ex : x ≡ (slotLength (s .size) k 
 pub shape-some : (s : Shape) → Known s → 0 < s .size
 shape-some s k = omega (arith, k .is-size, size-pos (s .degrees) (s .levels))
 
+-- the form of two slots, with the values that the calls gave
+pub forms-found : (p n : ℤ) (e : List ℤ) (s : Shape) → ShapeOf n e s → (q : ℕ) → q ≡ num p → (a b : List ℤ) (y : Bool)
+    → y ≡ (slotForm q (s .degrees) (s .levels) (slotCount (s .size) (length a)) a && slotForm q (s .degrees) (s .levels) (slotCount (s .size) (length b)) b)
+    → (formOk p n e a && formOk p n e b) ≡ y
+forms-found p n e s is q eq a b y ey =
+    let size-is = size-found p n e s is q eq in
+    sym (ey
+    ∙ λ i. slotForm (eq i) (is .degrees i) (is .levels i) (slotCount (size-is i) (length a)) a
+    && slotForm (eq i) (is .degrees i) (is .levels i) (slotCount (size-is i) (length b)) b)
+
 -- ---- the numbers
 module _ (p n : ℤ) (e t a b : List ℤ) where
   abbrev lengths : Bool
@@ -87,9 +97,7 @@ module _ (p n : ℤ) (e t a b : List ℤ) where
       pub view-end : x ≡ true → (q : ℕ) → q ≡ num p → (y : Bool)
           → y ≡ (slotForm q (s .degrees) (s .levels) (slotCount (s .size) (length a)) a && slotForm q (s .degrees) (s .levels) (slotCount (s .size) (length b)) b)
           → unless y 5 0 ≡ viewNumber p n e t a b
-      view-end fx q eq y ey = view-rest h true y (lengths-told ∙ fx) (sym (ey
-          ∙ λ i. slotForm (eq i) (is .degrees i) (is .levels i) (slotCount (size-is i) (length a)) a
-          && slotForm (eq i) (is .degrees i) (is .levels i) (slotCount (size-is i) (length b)) b))
+      view-end fx q eq y ey = view-rest h true y (lengths-told ∙ fx) (forms-found p n e s is q eq a b y ey)
 
 -- ---- the leading coefficient of a slot
 module _ (s : ℕ) (x : List ℤ) (c : ℕ) (ec : c ≡ degreeCount x) where

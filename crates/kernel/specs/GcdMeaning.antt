@@ -5,6 +5,7 @@
 -- gcd-blind         == "Contents of answer slots, factor buffer and work store are not tested."
 -- gcd-tower         == where no number is given t is the words of exactly one tower, and p is in range;  gcd-ring == its topmost ring is computed in
 -- gcd-kind          == Done or a factor is said;  gcd-done, gcd-factor == each precisely where the sequence gives a GCD, shows a factor
+-- made-below, gcd-fits == the coefficients that a GCD counts are all, and the answer's slot has room for them
 -- GcdHeld           == demand 3's description of a GCD
 -- GcdLeft, gcd-left == what is left with a GCD;  gcd-held == what g holds then is so described;  gcd-only == nothing else is
 -- GcdShown, gcd-shown == what is left with a factor: demand 3's
@@ -28,7 +29,7 @@ use Rattle.tower.specs.Levels.{ring, one-not-zero}
 use Rattle.tower.specs.Limits.{pOk, p-positive, degreesOf}
 use Rattle.euclid.specs.Answer.{Answer, done as done-with, shown, long, Holds}
 use Rattle.euclid.specs.Demand.{gcd-done as given-is, gcd-shown as shown-is, gcd-zero, gcd-unique}
-use Rattle.euclid.specs.Gcd.{Made, nil, made, madeCoefficients, val, Gcd, nothing}
+use Rattle.euclid.specs.Gcd.{Made, nil, made, madeCount, madeCoefficients, val, Gcd, nothing}
 use Rattle.euclid.specs.Level.{Good}
 use Rattle.euclid.specs.Shown.{shownWords}
 use Rattle.euclid.specs.Steps.{Low, gcd-low}
@@ -75,6 +76,11 @@ module _ (R : CRing) where
   made-is : (m : Made (R .Car) (Unit {0})) (j : ℕ) → madeCoefficients R m j ≡ val R m .0 j
   made-is (nil x) j = refl
   made-is (made d w x) j = refl
+
+  -- it has no more than it counts
+  pub made-below : (m : Made (R .Car) (Unit {0})) → Below (R .𝟘) (madeCount m) (madeCoefficients R m)
+  made-below (nil x) j q = refl
+  made-below (made d w x) j q = coef-below (R .𝟘) (suc d) (topped d w (R .𝟙)) j q
 
   -- where it is not zero it is monic
   made-monic : (a b : P R) (m : Made (R .Car) (Unit {0})) → Gcd R a b m → ¬ ((a ≡ PolyRing R .𝟘) × (b ≡ PolyRing R .𝟘)) → Monic R (val R m .0)
@@ -154,10 +160,12 @@ module _ (p n : ℤ) (e t a b g f v : List ℤ) (h : gcdNumber p n e t a b g f v
       (low a (form-iff p n e gcd-modulus a .1 (gcd-passed .slots .held-a)) (omega arith))
       (low b (form-iff p n e gcd-modulus b .1 (gcd-passed .slots .held-b)) (omega arith))
 
-  fits : (m : Made (ElementOf p n e) (Unit {0})) → Low (levelOf p n e t gcd-modulus) (nothing (ElementOf p n e)) keeps D m
-      → Below (gcdRing .𝟘) (coefficientsOf n e g) (madeCoefficients gcdRing m)
-  fits (nil x) l j q = refl
-  fits (made d w x) l j q = coef-below (gcdRing .𝟘) (suc d) (topped d w (gcdRing .𝟙)) j (omega (arith, gcd-passed .slots .room))
+  few : (m : Made (ElementOf p n e) (Unit {0})) → Low (levelOf p n e t gcd-modulus) (nothing (ElementOf p n e)) keeps D m → madeCount m ≤ coefficientsOf n e g
+  few (nil x) l = omega arith
+  few (made d w x) l = omega (arith, gcd-passed .slots .room)
+
+  pub gcd-fits : (m : Made (ElementOf p n e) (Unit {0})) → found ≡ done-with m → madeCount m ≤ coefficientsOf n e g
+  gcd-fits m q = few m (subst (Holds (levelOf p n e t gcd-modulus .Right) (Low (levelOf p n e t gcd-modulus) (nothing (ElementOf p n e)) keeps D)) q lows)
 
   -- m is the GCD
   pub record GcdLeft (m : Made (ElementOf p n e) (Unit {0})) : Type 0 where
@@ -173,13 +181,12 @@ module _ (p n : ℤ) (e t a b g f v : List ℤ) (h : gcdNumber p n e t a b g f v
       let is = run-is ∙ ap by q in
       let words : gcd p n e t a b g f v .words .gcd ≡ filled p n e g (madeCoefficients gcdRing m) = ap (λ x. x .words .gcd) is in
       let long-g = length-iff n e g .1 (gcd-passed .slots .long .1 .1 .0) in
-      let small = subst (Holds (levelOf p n e t gcd-modulus .Right) (Low (levelOf p n e t gcd-modulus) (nothing (ElementOf p n e)) keeps D)) q lows in
       record {
         is-gcd = given-is (levelOf p n e t gcd-modulus) keeps (coefficientsOf n e a) _ (coefficientsOf n e b) _ (nothing (ElementOf p n e)) tt tt m q;
         written = rw words (slot-written p n e gcd-modulus g _ long-g);
         holds = P-path gcdRing _ _ (λ j.
             ap (λ w. coefficientsIn p n e gcd-modulus w j) words
-            ∙ filled-holds p n e gcd-modulus g (madeCoefficients gcdRing m) (fits m small) j
+            ∙ filled-holds p n e gcd-modulus g (madeCoefficients gcdRing m) (below-mono (gcdRing .𝟘) _ (gcd-fits m q) (made-below gcdRing m)) j
             ∙ made-is gcdRing m j);
         factor = ap (λ x. x .words .factor) is;
         work = rw is (cleared-words (gcdNeeded n e a b) v (gcd-passed .more));

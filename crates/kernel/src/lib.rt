@@ -3,17 +3,21 @@
 // stands in them is no call.
 mod divisions;
 mod fractions;
+mod gcds;
+mod inverses;
 mod multiplication;
 mod numbers;
 mod slots;
 mod sums;
 mod views;
 
-ghost use Rattle.kernel.specs.Promises.{TowerChecked, SlotChecked, SizesGiven, FractionGiven, LeadingShown, SumGiven, ProductGiven, DivisionGiven};
+ghost use Rattle.kernel.specs.Promises.{TowerChecked, SlotChecked, SizesGiven, FractionGiven, LeadingShown, SumGiven, ProductGiven, DivisionGiven, InverseGiven, GcdGiven};
 ghost use mathlib.Core.Bool.{true, false};
 use divisions::parted;
 use fractions::no_fraction;
 use fractions::quotient;
+use gcds::found;
+use inverses::inverted;
 use multiplication::multiplied;
 use numbers::BAD_MODULUS;
 use numbers::NO_RESIDUE;
@@ -174,4 +178,41 @@ pub fn division(
         ⌜ DivisionGiven p n e (now (t .entry)) (now (a .entry)) (now (b .entry)) (now (q .entry)) (now (v .entry)) r (now (a .exit)) (now (q .exit)) (now (v .exit)) ⌝ }
 {
     parted(p, n, e, t, a, b, q, v)
+}
+
+// Inverse of an element c: the inverse goes into the element r. Refuses 1 to 5, 7, 9, 11. After Done it has written r; where it shows a factor, the factor
+// buffer f and not r; then, and after 11, I(N) words of the work store v are 0. When refused by another number nothing is written.
+pub fn inverse(
+    p: i64,
+    n: i64,
+    e: [i64; 4],
+    t: &[i64],
+    c: &[i64],
+    r: &mut [i64],
+    f: &mut [i64],
+    v: &mut [i64],
+) -> Answer
+    ensures given { λ k.
+        ⌜ InverseGiven p n e (now (t .entry)) (now (c .entry)) (now (r .entry)) (now (f .entry)) (now (v .entry)) k (now (r .exit)) (now (f .exit)) (now (v .exit)) ⌝ }
+{
+    inverted(p, n, e, t, c, r, f, v)
+}
+
+// GCD: of a and b, into g. Refuses 1 to 7, 11. After Done it has written the whole of g's slot; where it shows a factor, the factor buffer f and not g;
+// then, and after 11, the GCD's number of words of the work store v are 0. When refused by another number nothing is written.
+pub fn gcd(
+    p: i64,
+    n: i64,
+    e: [i64; 4],
+    t: &[i64],
+    a: &[i64],
+    b: &[i64],
+    g: &mut [i64],
+    f: &mut [i64],
+    v: &mut [i64],
+) -> Answer
+    ensures given { λ r.
+        ⌜ GcdGiven p n e (now (t .entry)) (now (a .entry)) (now (b .entry)) (now (g .entry)) (now (f .entry)) (now (v .entry)) r (now (g .exit)) (now (f .exit)) (now (v .exit)) ⌝ }
+{
+    found(p, n, e, t, a, b, g, f, v)
 }

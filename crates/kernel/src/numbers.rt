@@ -41,7 +41,11 @@ pub const SMALL_WORK: usize = 7;
 
 pub const NOT_MONIC: usize = 8;
 
+pub const OF_ZERO: usize = 9;
+
 pub const NO_RESIDUE: usize = 10;
+
+pub const TOO_LONG: usize = 11;
 
 // The answer that a number is: 0 is Done.
 pub fn answer(number: usize) -> Answer
