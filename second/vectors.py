@@ -47,10 +47,6 @@ CALLS = [
      answers(range(1, 8), range(5))),
 ]
 
-# Calls that the program `vectors` does not make yet: their lines are made and
-# counted, but not written. Empty it when the program makes them.
-NOT_YET = {"inverse", "gcd"}
-
 # Every call has at least so many cases.
 LEAST = 1000
 
@@ -85,8 +81,7 @@ def report(name, counts, expected):
     """How many cases, and how many for each answer; none may be missing."""
     parts = [f"{' '.join(map(str, answer)) or 'no answer'}: {counts[answer]}"
              for answer in sorted(counts)]
-    written = " (not written yet)" if name in NOT_YET else ""
-    print(f"{name}{written}: {sum(counts.values())} cases, {', '.join(parts)}")
+    print(f"{name}: {sum(counts.values())} cases, {', '.join(parts)}")
     if sum(counts.values()) < LEAST or set(counts) != expected:
         sys.exit(f"{name}: too few cases, or an answer that none of them gives")
 
@@ -97,9 +92,8 @@ def files():
     for name, call, groups, expected in CALLS:
         asked, answered, counts = lines_of(name, call, groups)
         report(name, counts, expected)
-        if name not in NOT_YET:
-            stdin += asked
-            stdout += answered
+        stdin += asked
+        stdout += answered
     folder = os.path.join(ROOT, "crates", "vectors")
     return {os.path.join(folder, "stdin"): "".join(stdin),
             os.path.join(folder, "stdout"): "".join(stdout)}

@@ -14,6 +14,8 @@ use crate::output::put_number;
 use crate::output::put_words;
 use crate::polynomials::division;
 use crate::polynomials::product;
+use crate::remainders::gcd;
+use crate::remainders::inverse;
 use kernel::Answer;
 use tower::words::word_at;
 
@@ -359,6 +361,8 @@ fn make(call: Call, numbers: &[i64], line: u64, out: &mut Output, held: usize) -
         Call::Difference => gain(true, numbers, line, out, held),
         Call::Product => product(numbers, line, out, held),
         Call::Division => division(numbers, line, out, held),
+        Call::Inverse => inverse(numbers, line, out, held),
+        Call::Gcd => gcd(numbers, line, out, held),
         Call::Unknown => bad_line(line, out, held),
     }
 }

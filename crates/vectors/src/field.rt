@@ -17,6 +17,8 @@ pub enum Call {
     Difference,
     Product,
     Division,
+    Inverse,
+    Gcd,
     Unknown,
 }
 
@@ -77,6 +79,12 @@ fn call_named(name: &[u8]) -> Call {
     }
     if same(name, b"division") {
         return Call::Division;
+    }
+    if same(name, b"inverse") {
+        return Call::Inverse;
+    }
+    if same(name, b"gcd") {
+        return Call::Gcd;
     }
     Call::Unknown
 }

@@ -10,6 +10,7 @@ mod calls;
 mod field;
 mod output;
 mod polynomials;
+mod remainders;
 
 ghost use Rattle.vectors.specs.Sound.{Sound};
 use crate::field::Call;
