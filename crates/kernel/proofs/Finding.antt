@@ -3,14 +3,14 @@
 -- elements-copied        == elements that are copied
 -- gcd-refused            == the call with a number
 -- gcd-shape, slots-some, few-counts == with none N and the degrees are in range, the slots have words, and the degree words count few
--- a-counted, b-counted, g-length, f-length == the lengths of the slots and of the factor buffer
+-- g-length, f-length     == the lengths of the slots and of the factor buffer
 -- A, by, given           == the sequence's answer, and the call by it
--- needed-is, ready-plain == the work store's parts, and that the sequence may run in it;  found-plain, work-kept == what it leaves
+-- a-inside, b-inside     == the words that are copied into the work store;  find-ready == then the sequence may run;  Sought, sought == what it came to
 -- gcd-plain              == the same of the numbers before they went through a call
 use Rattle.kernel.proofs.Order.{zero-then}
-use Rattle.kernel.proofs.Seeking.{gcd-number-is}
-use Rattle.kernel.proofs.Shapes.{tower-zero}
-use Rattle.kernel.proofs.Slotting.{allowed-long, count-low, count-words, held-length, held-stands, held-modulus, held-positive}
+use Rattle.kernel.proofs.Seeking.{gcd-number-is, needed-found}
+use Rattle.kernel.proofs.Shapes.{size-found, tower-zero}
+use Rattle.kernel.proofs.Slotting.{cleared-by, allowed-long, count-low, count-words, held-length, held-stands, held-modulus, held-positive}
 use Rattle.kernel.specs.Answered.{towerIn, levelOf}
 use Rattle.kernel.specs.Answers.{said}
 use Rattle.kernel.specs.Calls.{sizeOf, coefficientsOf, lengthOk, formOk, shapeNumber, towerNumber}
@@ -18,11 +18,13 @@ use Rattle.kernel.specs.GcdAnswers.{GcdMeans, gcdAnswer, gcd-sequence}
 use Rattle.kernel.specs.GcdMeaning.{gcd-passed, gcd-refused as refused-words}
 use Rattle.kernel.specs.Gcds.{gcdNeeded, gcdNumber, GcdWords, gcdBy}
 use Rattle.kernel.specs.Meaning.{TowerHeld}
+use Rattle.kernel.specs.Shape.{ShapeOf}
+use Rattle.kernel.specs.declared.Shape.{Shape}
 use Rattle.kernel.specs.Promises.{GcdGiven}
 use Rattle.kernel.specs.Refusals.{factor, refused}
 use Rattle.kernel.specs.SlotLaws.{held-below, held-top, held-few, held-words}
 use Rattle.kernel.specs.SlotMeaning.{length-iff, form-iff}
-use Rattle.kernel.specs.Slots.{degreeCount, coefficientsIn, polynomialOf, Changed}
+use Rattle.kernel.specs.Slots.{degreeCount, coefficientsIn, polynomialOf, Changed, cleared}
 use Rattle.kernel.specs.declared.Answer.{Answer as CallAnswer}
 use Rattle.kernel.specs.declared.Answer.the-variants.{Refused}
 use Rattle.euclid.specs.Answer.{Answer, long}
@@ -36,7 +38,7 @@ use Rattle.arithmetic.specs.Rows.{block-inside}
 use Rattle.algebra.specs.Vec.{coef-trunc, trunc}
 use Rattle.residue.specs.Word.{num}
 use Rattle.tower.proofs.Working.{gcd-is}
-use Rattle.tower.specs.Form.{seg}
+use Rattle.tower.specs.Form.{seg, copies}
 use Rattle.tower.specs.Levels.{El, Tower, group}
 use Rattle.tower.specs.Limits.{pOk, p-two, p-positive, degreesOf}
 use Rattle.tower.specs.Lists.{of-true, seg-seg, seg-long}
@@ -47,14 +49,14 @@ use Rattle.tower.specs.Writing.{size}
 use mir.Syntax.{w64}
 use mir.Val.{SFits, toZ, ofZ}
 use mir.ValLaws.{toZ-ofZ}
-use mathlib.Core.Path.{_≡_, refl, sym, ap, _∙_, subst, subst₂}
+use mathlib.Core.Path.{_≡_, refl, sym, ap, _∙_, subst, subst₂, ap₂, subst₃}
 use mathlib.Core.Bool.{false}
-use mathlib.Core.List.{List}
+use mathlib.Core.List.{List, [], _∷_}
 use mathlib.Core.Logic.{inl, inr}
 use Prim.Native.Nat.{ℕ, suc, _+_, _-_, _*_, _<_, _≤_}
 use native.Mathlib.Nat.{mul-le-mul-right}
 use native.Mathlib.Omega.{arith}
-use lib.IntN.{ℤ}
+use lib.IntN.{ℤ, pos}
 use lib.Dec.{T}
 use lib.ListN.{length}
 
@@ -134,10 +136,10 @@ module _ (p n : ℤ) (e t a b g f v : List ℤ) (passed : gcdNumber p n e t a b 
   counted : (x : List ℤ) → T (lengthOk n e x) → T (formOk p n e x) → 1 + degreeCount x * S ≤ length x
   counted x l k = omega (arith, mul-le-mul-right S (held-few p n e M x k), allowed-long n e x l)
 
-  pub a-counted : 1 + degreeCount a * S ≤ length a
+  a-counted : 1 + degreeCount a * S ≤ length a
   a-counted = counted a long-a form-a
 
-  pub b-counted : 1 + degreeCount b * S ≤ length b
+  b-counted : 1 + degreeCount b * S ≤ length b
   b-counted = counted b long-b form-b
 
   coefficients-stand : (x : List ℤ) → T (formOk p n e x) → Elements (num p) d (num n) (degreeCount x) (coefficientsIn p n e M x) x 1
@@ -176,7 +178,7 @@ module _ (p n : ℤ) (e t a b g f v : List ℤ) (passed : gcdNumber p n e t a b 
 
   -- ---- the work store: a copy of a behind its first word, a copy of b from row on, two inverses from unit on, and the words of an inverse
   module _ (row unit : ℕ) (er : row ≡ degreeCount a * S + 2) (eu : unit ≡ row + degreeCount b * S) where
-    pub needed-is : unit + 2 * S + inverseWork d (num n) ≡ gcdNeeded n e a b
+    needed-is : unit + 2 * S + inverseWork d (num n) ≡ gcdNeeded n e a b
     needed-is = omega (arith, gcd-is d (num n) (degreeCount a) (degreeCount b) S (inverseWork d (num n)) _ refl refl refl)
 
     sited : (z : List ℕ) → Sized d z → num n ≤ 4 → (w : List ℤ) → length w ≡ length v
@@ -235,7 +237,7 @@ module _ (p n : ℤ) (e t a b g f v : List ℤ) (passed : gcdNumber p n e t a b 
         leads = leading b form-b;
       }
 
-      pub ready-plain : (z : List ℕ) → Sized d z → num n ≤ 4 → GcdReady (num n) d z (num p) t false 0 1 unit (degreeCount a) row (unit + S) (degreeCount b) v₂ (unit + 2 * S)
+      ready-plain : (z : List ℕ) → Sized d z → num n ≤ 4 → GcdReady (num n) d z (num p) t false 0 1 unit (degreeCount a) row (unit + S) (degreeCount b) v₂ (unit + 2 * S)
       ready-plain z sized low = record {
         sited = sited z sized low v₂ (kept-b .long ∙ kept-a .long);
         p-pos = p-pos;
@@ -248,17 +250,103 @@ module _ (p n : ℤ) (e t a b g f v : List ℤ) (passed : gcdNumber p n e t a b 
       }
 
       module _ (w : List ℤ) (o : Found) (D : GcdDone (num n) d (num p) t false 0 1 unit (degreeCount a) row (unit + S) (degreeCount b) v₂ w (unit + 2 * S) o) where
-        pub found-plain : Finds (num p) p-pos d (num n) θ A o w (unit + 2 * S)
+        found-plain : Finds (num p) p-pos d (num n) θ A o w (unit + 2 * S)
         found-plain =
             subst (λ X. Finds (num p) p-pos d (num n) θ X o w (unit + 2 * S)) started
             (D .done p-pos θ (coefficientsIn p n e M a) (coefficientsIn p n e M b) (held-stands p n e t τ) left right)
 
-        pub work-kept : Kept 0 (gcdNeeded n e a b) v w
+        work-kept : Kept 0 (gcdNeeded n e a b) v w
         work-kept =
             kept-trans (kept-wide (omega arith) (omega (arith, needed-is)) kept-a)
             (kept-trans (kept-wide (omega arith) (omega (arith, needed-is)) kept-b)
             (kept-wide (omega arith) (omega (arith, needed-is)) (D .frame 0 (omega arith) (omega arith) (omega arith) (omega arith) (omega arith))))
 
-pub gcd-plain : {p n : ℤ} (e t a b g f v : List ℤ) (r : CallAnswer) (g′ f′ v′ : List ℤ) → SFits w64 p → SFits w64 n
+  -- ---- with the values that the calls gave
+  -- the sequence has run: w are the store's words, o what it found, whose words stand below top, and c of the store's words are to be cleared
+  pub record Sought : Type 0 where
+    pub s : Shape
+    pub is : ShapeOf n e s
+    pub w : List ℤ
+    pub o : Found
+    pub top : ℕ
+    pub c : ℕ
+    pub found : Finds (num p) p-pos d (num n) θ A o w top
+    pub inside : top ≤ length w
+    pub clears : (c ≤ length w) × ((v′ : List ℤ) → Put 0 (copies c (pos 0 ∷ [])) w v′ → v′ ≡ cleared (gcdNeeded n e a b) v)
+
+  -- `first` is the place behind the copy of a, and `unit` that of the two inverses
+  module _ (s : Shape) (is : ShapeOf n e s) (q : ℕ) (eq : q ≡ num p) (j k : ℕ) (ej : j ≡ degreeCount a) (ek : k ≡ degreeCount b)
+      (first : ℕ) (e-first : first ≡ 0 + 1 + j * s .size) (unit : ℕ) (e-unit : unit ≡ first + 1 - 1 + 1 + k * s .size) where
+    size-of : s .size ≡ S
+    size-of = size-found p n e s is q eq
+
+    a-words : j * s .size ≡ degreeCount a * S
+    a-words = ap₂ _*_ ej size-of
+
+    b-words : k * s .size ≡ degreeCount b * S
+    b-words = ap₂ _*_ ek size-of
+
+    row-is : first + 1 ≡ degreeCount a * S + 2
+    row-is = omega (arith, e-first, a-words)
+
+    unit-is : unit ≡ first + 1 + degreeCount b * S
+    unit-is = omega (arith, e-unit, b-words)
+
+    fits : unit + 2 * S + inverseWork d (num n) ≤ length v
+    fits = omega (arith, needed-is (first + 1) unit row-is unit-is, held .more)
+
+    pub a-inside : (1 + j * s .size ≤ length a) × (1 + j * s .size ≤ length v)
+    a-inside = (omega (arith, a-words, a-counted), omega (arith, e-first, e-unit, fits))
+
+    module _ (v₁ : List ℤ) (put-a : Put 1 (seg 1 (j * s .size) a) v v₁) where
+      copied-a : Put 1 (seg 1 (degreeCount a * S) a) v v₁
+      copied-a = subst (λ l. Put 1 (seg 1 l a) v v₁) a-words put-a
+
+      pub b-inside : (1 + k * s .size ≤ length b) × (first + 1 + k * s .size ≤ length v₁)
+      b-inside = (omega (arith, b-words, b-counted), omega (arith, e-unit, fits, put-a .kept .long))
+
+      module _ (v₂ : List ℤ) (put-b : Put (first + 1) (seg 1 (k * s .size) b) v₁ v₂) where
+        copied-b : Put (first + 1) (seg 1 (degreeCount b * S) b) v₁ v₂
+        copied-b = subst (λ l. Put (first + 1) (seg 1 l b) v₁ v₂) b-words put-b
+
+        pub find-ready : GcdReady (s .levels) (s .degrees) (s .sizes) q t false 0 1 unit j (first + 1) (unit + s .size) k v₂ (unit + 2 * s .size)
+        find-ready =
+            subst₃ (λ i x y. GcdReady i x (s .sizes) y t false 0 1 unit j (first + 1) (unit + s .size) k v₂ (unit + 2 * s .size))
+            (sym (is .levels)) (sym (is .degrees)) (sym eq)
+            (subst₃ (λ x y l. GcdReady (num n) d (s .sizes) (num p) t false 0 1 unit x (first + 1) (unit + l) y v₂ (unit + 2 * l)) (sym ej) (sym ek) (sym size-of)
+            (ready-plain (first + 1) unit row-is unit-is v₁ v₂ copied-a copied-b (s .sizes)
+            (subst (λ x. Sized x (s .sizes)) (is .degrees) (is .known .sized)) (omega (arith, is .levels, is .known .low))))
+
+        -- the sequence has run, and c work words are to be cleared
+        module _ (w : List ℤ) (o : Found)
+            (D : GcdDone (s .levels) (s .degrees) q t false 0 1 unit j (first + 1) (unit + s .size) k v₂ w (unit + 2 * s .size) o)
+            (i : ℕ) (ei : i ≡ inverseWork (s .degrees) (s .levels)) (c : ℕ) (ec : c ≡ j * s .size + 1 + (k * s .size + 1) + 2 * s .size + i) where
+          done-plain : GcdDone (num n) d (num p) t false 0 1 unit (degreeCount a) (first + 1) (unit + S) (degreeCount b) v₂ w (unit + 2 * S) o
+          done-plain =
+              subst₃ (λ x y l. GcdDone (num n) d (num p) t false 0 1 unit x (first + 1) (unit + l) y v₂ w (unit + 2 * l) o) ej ek size-of
+              (subst₃ (λ i x y. GcdDone i x y t false 0 1 unit j (first + 1) (unit + s .size) k v₂ w (unit + 2 * s .size) o) (is .levels) (is .degrees) eq D)
+
+          is-kept : Kept 0 (gcdNeeded n e a b) v w
+          is-kept = work-kept (first + 1) unit row-is unit-is v₁ v₂ copied-a copied-b w o done-plain
+
+          pub is-found : Finds (num p) p-pos d (num n) θ A o w (unit + 2 * S)
+          is-found = found-plain (first + 1) unit row-is unit-is v₁ v₂ copied-a copied-b w o done-plain
+
+          pub is-inside : unit + 2 * S ≤ length w
+          is-inside = omega (arith, fits, is-kept .long)
+
+          pub is-cleared : (c ≤ length w) × ((v′ : List ℤ) → Put 0 (copies c (pos 0 ∷ [])) w v′ → v′ ≡ cleared (gcdNeeded n e a b) v)
+          is-cleared =
+              let needs = needed-found p n e a b s is j k ej ek i ei c ec in
+              let more = held .more in (
+                omega (arith, needs, more, is-kept .long),
+                λ v′ put. cleared-by (gcdNeeded n e a b) c v w v′ (omega (arith, needs)) (omega (arith, needs, more)) is-kept put ∙ ap (λ x. cleared x v) needs,
+              )
+
+          abbrev pub sought : Sought
+          sought = record { s = s; is = is; w = w; o = o; top = unit + 2 * S; c = c; found = is-found; inside = is-inside; clears = is-cleared }
+
+pub gcd-plain : {p n : ℤ} {e t a b g f v : List ℤ} {r : CallAnswer} {g′ f′ v′ : List ℤ} → SFits w64 p → SFits w64 n
     → GcdGiven (toZ w64 (ofZ w64 p)) (toZ w64 (ofZ w64 n)) e t a b g f v r g′ f′ v′ → GcdGiven p n e t a b g f v r g′ f′ v′
-gcd-plain {p} {n} e t a b g f v r g′ f′ v′ fp fn h = subst₂ (λ x y. GcdGiven x y e t a b g f v r g′ f′ v′) (toZ-ofZ w64 p fp) (toZ-ofZ w64 n fn) h
+gcd-plain {p} {n} {e} {t} {a} {b} {g} {f} {v} {r} {g′} {f′} {v′} fp fn h =
+    subst₂ (λ x y. GcdGiven x y e t a b g f v r g′ f′ v′) (toZ-ofZ w64 p fp) (toZ-ofZ w64 n fn) h

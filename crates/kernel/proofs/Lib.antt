@@ -11,6 +11,7 @@ pub mod Multiplying
 pub mod Dividing
 pub mod Showing
 pub mod Inverting
+pub mod Reaching
 pub mod Seeking
 pub mod Finding
 pub mod Giving

@@ -3,6 +3,7 @@
 -- Leads, leads    == the element's degree and leading coefficient: its first word tells them
 -- begin-reads, begin-ready == what the reading of that word and the filling of the slots ask for
 -- begin-counts    == the numbers;  begin-asks == what the inverse one level down asks for
+-- begin-frame     == what has changed
 -- begin-going, begin-shows, begin-over == the loop's beginning; a factor of a level below; number 11 is not met
 use Prim.Native.Nat.{ℕ, suc, _+_, _-_, _*_, _<_, _≤_}
 use native.Mathlib.Nat.{mul-le-mul-right, suc-mul}
@@ -95,7 +96,8 @@ module _ {h : ℕ} {d z : List ℕ} {p : ℕ} {e : List ℤ} {e-in : Bool} {ea :
     two-fit : s + s ≤ (g + 1) * s
     two-fit = omega (arith, mul-le-mul-right s (run-some r))
 
-    laid : Laid top (nextOf d h top) ((g + 1) * s) s (top + 1) (top + 2 * slot d h + 1) (top + 4 * slot d h) (top + slot d h + 1) (top + 3 * slot d h + 1) (top + 4 * slot d h + s)
+    laid : Laid top (nextOf d h top) ((g + 1) * s) s (top + 1) (top + 2 * slot d h + 1) (top + 4 * slot d h)
+        (top + slot d h + 1) (top + 3 * slot d h + 1) (top + 4 * slot d h + s)
     laid = laid-start top ((g + 1) * s) s two-fit
 
     leading : Stands p d h (q .c) w₁ (top + slot d h + 1 + (n - 1) * s)
@@ -182,8 +184,8 @@ module _ {h : ℕ} {d z : List ℕ} {p : ℕ} {e : List ℤ} {e-in : Bool} {ea :
           run-done r begin-frame (Divisor m (top + 4 * slot d h + s))
           (subst (λ y. Reached p (r .p-pos) d (suc h) (r .t) y (Divisor m (top + 4 * slot d h + s)) w₂ top)
           (sym (inverse-shown (levelOf r) g (r .t .1) (r .v) (q .e) (q .u) (q .c) (q .shape) (k .0) (k .1)))
-          (shown-above r w₂ (Divisor m (top + 4 * slot d h + s)) (top + 4 * slot d h + s) (k .0) (ap (λ y. Divisor y (top + 4 * slot d h + s)) (k .2)) (laid .ku-low) (laid .ku-high)
-          (k .3)))
+          (shown-above r w₂ (Divisor m (top + 4 * slot d h + s)) (top + 4 * slot d h + s) (k .0) (ap (λ y. Divisor y (top + 4 * slot d h + s)) (k .2))
+          (laid .ku-low) (laid .ku-high) (k .3)))
 
       pub begin-over : c ≡ Long → ⊥
       begin-over ec =

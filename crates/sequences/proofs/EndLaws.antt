@@ -1,6 +1,6 @@
 -- Laws of the end of an inverse at level h + 1: the factor or the inverse is scaled, and made an element.
 --
--- end-counts, end-factor-asks, end-factor-finish, end-factor == the remainder was zero, and f is the factor
+-- end-factor-asks, end-factor-finish, end-factor == the remainder was zero, and f is the factor
 -- end-inverse-asks, end-inverse-finish, end-inverse          == k is a constant, and carries the inverse
 use Prim.Native.Nat.{ℕ, suc, _+_, _-_, _*_, _<_, _≤_}
 use native.Mathlib.Nat.{mul-le-mul-right, lt-irrefl}
@@ -19,7 +19,6 @@ use Rattle.tower.specs.Store.{Kept, kept-trans, kept-wide}
 use Rattle.tower.specs.Work.{inverseWork}
 use Rattle.products.specs.Product.{Elements}
 use Rattle.products.proofs.Frames.{worked-kept}
-use Rattle.products.proofs.Products.{stands-of-slot}
 use Rattle.euclid.specs.Answer.{done}
 use Rattle.euclid.specs.Shown.{shownWords, factorElement}
 use Rattle.euclid.specs.Lazy.{whole}
@@ -28,6 +27,7 @@ use Rattle.sequences.specs.Rows.{ScaleRowReady, ScaleRowDone}
 use Rattle.sequences.specs.Starts.{FinishReady, FinishDone}
 use Rattle.sequences.specs.Outcomes.{RunReady, RunDone, Above, Reached}
 use Rattle.sequences.proofs.PlaceLaws.{clear-swap, apart-in, work≤inverse}
+use Rattle.sequences.proofs.StartLaws.{finish-frame, finish-element}
 use Rattle.sequences.proofs.TurnLaws.{turn-done}
 use Rattle.sequences.proofs.RunLaws.{underOf, nextOf, levelOf, run-room, run-tower, run-stands, run-acting, run-done}
 use Rattle.sequences.proofs.StateLaws.{Going, Zero, Looping}
@@ -56,10 +56,10 @@ module _ {h : ℕ} {d z : List ℕ} {p : ℕ} {e : List ℤ} {e-in : Bool} {ea :
 
   -- the frame of the last two steps
   ended-frame : {row : ℕ} {w₁ w₂ : List ℤ} → top < row → row + (g + 1) * size d h ≤ nextOf d h top → Kept top (inverseWork d (suc h)) w w₁
-      → Kept (row - 1) (g * size d h + 1) w₁ w₂ → Kept top (inverseWork d (suc h)) w₀ w₂
+      → Kept (row - 1) (size d (suc h)) w₁ w₂ → Kept top (inverseWork d (suc h)) w₀ w₂
   ended-frame l q f k =
       kept-trans (s .frame)
-      (kept-trans f (kept-wide (omega arith) (omega (arith, part g (omega arith), run-room r)) k))
+      (kept-trans f (kept-wide (omega arith) (omega (arith, size-suc d h, part g (omega arith), run-room r)) k))
 
   -- what the finish of a row asks for, once it is scaled
   finish-ready : {n row : ℕ} {w₁ : List ℤ} → n ≤ g → top < row → row + (g + 1) * size d h ≤ nextOf d h top → Kept top (inverseWork d (suc h)) w w₁
@@ -85,7 +85,7 @@ module _ {h : ℕ} {d z : List ℕ} {p : ℕ} {e : List ℤ} {e-in : Bool} {ea :
         open-up (inl y) = absurd (lt-irrefl 0 (omega (arith, y .k-count)))
         open-up (inr y) = y
 
-    pub end-counts : fn ≤ degree d h
+    end-counts : fn ≤ degree d h
     end-counts = omega (arith, zeroed .f-count, zeroed .below)
 
     row-stands : Elements p d h fn (coef o (suc (zeroed .f .degree)) (whole (zeroed .f))) w fr
@@ -124,13 +124,12 @@ module _ {h : ℕ} {d z : List ℕ} {p : ℕ} {e : List ℤ} {e-in : Bool} {ea :
       pub end-factor : {w₂ : List ℤ} → FinishDone h fn g d w₁ w₂ fr → RunDone (suc h) d p e e-in ea x x-in a w₀ w₂ top (Divisor (suc h) (fr - 1))
       unfolding shownWords
       end-factor {w₂} fin =
-          run-done r (ended-frame (s .laid .fr-low) (s .laid .fr-high) scaled-frame (fin .frame)) (Divisor (suc h) (fr - 1))
+          run-done r (ended-frame (s .laid .fr-low) (s .laid .fr-high) scaled-frame (finish-frame fin)) (Divisor (suc h) (fr - 1))
           (subst (λ y. Reached p (r .p-pos) d (suc h) (r .t) y (Divisor (suc h) (fr - 1)) w₂ top) (sym (zeroed .comes)) (
             fr - 1,
             refl,
             above-of (s .laid .fr-low) (s .laid .fr-high),
-            stands-of-slot p d h _ w₂ (fr - 1)
-                (fin .done p (r .p-pos) _ (scaled .done (r .p-pos) (r .t .0) _ _ (run-stands r (s .frame)) (zeroed .f-stands .inverse) row-stands))
+            finish-element fin p (r .p-pos) _ (scaled .done (r .p-pos) (r .t .0) _ _ (run-stands r (s .frame)) (zeroed .f-stands .inverse) row-stands)
                 ∙ ap (write p d (suc h)) factor-is,
           ))
 
@@ -168,13 +167,12 @@ module _ {h : ℕ} {d z : List ℕ} {p : ℕ} {e : List ℤ} {e-in : Bool} {ea :
 
       pub end-inverse : {w₂ : List ℤ} → FinishDone h g g d w₁ w₂ kc → RunDone (suc h) d p e e-in ea x x-in a w₀ w₂ top (Inverse (kc - 1))
       end-inverse {w₂} fin =
-          run-done r (ended-frame (s .laid .kc-low) (s .laid .kc-high) carried-frame (fin .frame)) (Inverse (kc - 1))
+          run-done r (ended-frame (s .laid .kc-low) (s .laid .kc-high) carried-frame (finish-frame fin)) (Inverse (kc - 1))
           (subst (λ y. Reached p (r .p-pos) d (suc h) (r .t) y (Inverse (kc - 1)) w₂ top)
           (sym (turn-done (levelOf r) g (r .t .1) (r .v) (going .turning) (omega (arith, going .k-count)))) (
             kc - 1,
             refl,
             above-of (s .laid .kc-low) (s .laid .kc-high),
-            stands-of-slot p d h _ w₂ (kc - 1)
-                (fin .done p (r .p-pos) _ (scaled .done (r .p-pos) (r .t .0) _ _ (run-stands r (s .frame)) (going .k-stands .inverse) (going .k-stands .carries)))
+            finish-element fin p (r .p-pos) _ (scaled .done (r .p-pos) (r .t .0) _ _ (run-stands r (s .frame)) (going .k-stands .inverse) (going .k-stands .carries))
                 ∙ ap (write p d (suc h)) inverse-is,
           ))

@@ -1,10 +1,9 @@
 -- Laws of a turn's end: the remainder's leading coefficient times the dividend's inverse is inverted.
 --
--- follow-top, follow-told  == what the search for the leading coefficient asks for and tells
--- follow-zero              == the remainder is zero
--- follow-times, follow-invert, follow-scale == what the three steps ask for
--- follow-next, follow-shows, follow-long    == what they leave
--- searches, follows-zero, follows-fit, multiplies, inverts, scales, goes-on, shows, ends == the same in the words of the code
+-- searches, follows-zero       == the search for the leading coefficient; the remainder is zero
+-- follows-fit                  == the places that the code computes
+-- multiplies, inverts, scales  == what the three steps ask for
+-- goes-on, shows, ends         == what they leave
 use Prim.Native.Nat.{ℕ, suc, _+_, _-_, _*_, _<_, _≤_}
 use native.Mathlib.Nat.{add-mul, lt-irrefl}
 use native.Mathlib.Omega.{arith}
@@ -48,20 +47,20 @@ module _ {i : ℕ} {d z : List ℕ} {p : ℕ} {e : List ℤ} {e-in : Bool} {ea r
   free-ends : n * s + s ≡ (n + 1) * s
   free-ends = omega (arith, add-mul n 1 s)
 
-  pub follow-top : row - 1 + 1 + n * s ≤ length w₀
+  follow-top : row - 1 + 1 + n * s ≤ length w₀
   follow-top = omega (arith, r .behind, r .row-below, r .room, free-ends)
 
   -- what stood before
-  pub record Before : Type 0 where
-    pub p-pos : 0 < p
-    pub t : Tower p d i
-    pub f : ℕ → El p d i
-    pub u : El p d i
-    pub back : El p d i
-    pub tower : TowerStands p p-pos d i t (pick e-in w₀ e) ea
-    pub rest : Elements p d i n f w₀ row
-    pub inverse : Stands p d i u w₀ unit
-    pub is-unit : ring p p-pos d i t ._⊗_ u back ≡ ring p p-pos d i t .𝟙
+  record Before : Type 0 where
+    p-pos : 0 < p
+    t : Tower p d i
+    f : ℕ → El p d i
+    u : El p d i
+    back : El p d i
+    tower : TowerStands p p-pos d i t (pick e-in w₀ e) ea
+    rest : Elements p d i n f w₀ row
+    inverse : Stands p d i u w₀ unit
+    is-unit : ring p p-pos d i t ._⊗_ u back ≡ ring p p-pos d i t .𝟙
 
   abbrev now : Before
   now = record { p-pos = r .p-pos; t = r .t; f = r .f; u = r .u; back = r .back; tower = r .tower; rest = r .rest; inverse = r .inverse; is-unit = r .is-unit }
@@ -78,7 +77,7 @@ module _ {i : ℕ} {d z : List ℕ} {p : ℕ} {e : List ℤ} {e-in : Bool} {ea r
         behind : row ≡ row - 1 + 1
         behind = omega (arith, r .behind)
 
-    pub follow-zero : k ≡ 0 → FollowDone i d p e e-in ea row n unit w₀ w₀ top (Next 0)
+    follow-zero : k ≡ 0 → FollowDone i d p e e-in ea row n unit w₀ w₀ top (Next 0)
     follow-zero ek = record {
       frame = besides-refl;
       done = λ p-pos t f u back ts fs us ub.
@@ -92,14 +91,14 @@ module _ {i : ℕ} {d z : List ℕ} {p : ℕ} {e : List ℤ} {e-in : Bool} {ea r
 
     module _ (some : ¬ (k ≡ 0)) (few : k ≤ n) where
       -- a leading coefficient, at its place
-      pub record Leading (b : Before) : Type 0 where
-        pub m : ℕ
-        pub l : Vec (El p d i) m
-        pub c : El p d i
-        pub shape : strip (isZero p d i) n (trunc n (b .f)) ≡ lead m l c
-        pub counts : k ≡ suc m
-        pub here : b .f (k - 1) ≡ c
-        pub not-zero : ¬ (ring p (b .p-pos) d i (b .t) ._⊗_ (b .u) c ≡ group p (b .p-pos) d i .𝟘)
+      record Leading (b : Before) : Type 0 where
+        m : ℕ
+        l : Vec (El p d i) m
+        c : El p d i
+        shape : strip (isZero p d i) n (trunc n (b .f)) ≡ lead m l c
+        counts : k ≡ suc m
+        here : b .f (k - 1) ≡ c
+        not-zero : ¬ (ring p (b .p-pos) d i (b .t) ._⊗_ (b .u) c ≡ group p (b .p-pos) d i .𝟘)
 
       leading : (b : Before) → Leading b
       leading b = go (strip (isZero p d i) n (trunc n (b .f))) refl (strip-ok (zero-test p (b .p-pos) d i) n (trunc n (b .f))) (counted b)
@@ -144,13 +143,13 @@ module _ {i : ℕ} {d z : List ℕ} {p : ℕ} {e : List ℤ} {e-in : Bool} {ea r
           some-k : k ≡ suc (leading b .m)
           some-k = leading b .counts
 
-      pub follow-place : row + (k - 1) * s + s ≤ top
+      follow-place : row + (k - 1) * s + s ≤ top
       follow-place = omega (arith, block-inside (k - 1) (n + 1) s (omega (arith, few)), r .row-below)
 
-      pub follow-free : free + s ≤ top
+      follow-free : free + s ≤ top
       follow-free = omega (arith, free-ends, r .row-below)
 
-      pub follow-times : TimesReady i d z p e e-in ea unit (row + (k - 1) * s) w₀ free top
+      follow-times : TimesReady i d z p e e-in ea unit (row + (k - 1) * s) w₀ free top
       follow-times = record {
         acting = acting;
         a-below = r .unit-below;
@@ -175,7 +174,7 @@ module _ {i : ℕ} {d z : List ℕ} {p : ℕ} {e : List ℤ} {e-in : Bool} {ea r
             go (inl y) = record { apart = inl (omega arith) }
             go (inr y) = record { apart = inr (omega (arith, free-ends)) }
 
-        pub follow-invert : InvertReady i d z p e e-in ea e true free w₁ free top
+        follow-invert : InvertReady i d z p e e-in ea e true free w₁ free top
         follow-invert = record {
           run = record {
             modulus = r .modulus;
@@ -240,7 +239,7 @@ module _ {i : ℕ} {d z : List ℕ} {p : ℕ} {e : List ℤ} {e-in : Bool} {ea r
                 × (answer b ≡ done j) × Stands p d i j w₂ free
             given b = came-done p (b .p-pos) d i (b .t) w₂ free c ec (answer b) (came b)
 
-            pub follow-scale : TimesReady i d z p e e-in ea free unit w₂ unit top
+            follow-scale : TimesReady i d z p e e-in ea free unit w₂ unit top
             follow-scale = record {
               acting = record {
                 modulus = r .modulus;
@@ -263,7 +262,7 @@ module _ {i : ℕ} {d z : List ℕ} {p : ℕ} {e : List ℤ} {e-in : Bool} {ea r
               right = unit₂ now;
             }
 
-            pub follow-next : {w₃ : List ℤ} → TimesDone i d p e e-in ea free unit w₂ w₃ unit top → FollowDone i d p e e-in ea row n unit w₀ w₃ top (Next k)
+            follow-next : {w₃ : List ℤ} → TimesDone i d p e e-in ea free unit w₂ w₃ unit top → FollowDone i d p e e-in ea row n unit w₀ w₃ top (Next k)
             follow-next {w₃} scaled =
                 followed (Next k)
                 (λ b.
@@ -272,7 +271,7 @@ module _ {i : ℕ} {d z : List ℕ} {p : ℕ} {e : List ℤ} {e-in : Bool} {ea r
                 (besides-trans frame₂ (besides-right (work≤inverse d i) (scaled .frame)))
 
           -- a factor is shown
-          pub follow-shows : (m : ℕ) → c ≡ Factor m → FollowDone i d p e e-in ea row n unit w₀ w₂ top (Shows m free)
+          follow-shows : (m : ℕ) → c ≡ Factor m → FollowDone i d p e e-in ea row n unit w₀ w₂ top (Shows m free)
           follow-shows m ec =
               followed (Shows m free)
               (λ b.
@@ -280,7 +279,7 @@ module _ {i : ℕ} {d z : List ℕ} {p : ℕ} {e : List ℤ} {e-in : Bool} {ea r
               subst (λ q. Follows p (b .p-pos) d i (b .t) (b .u) (leading b .m) q (Shows m free) w₂ free unit) (sym (y .1)) (ap (λ l. Shows l free) (y .2), y .3))
               frame₂
 
-          pub follow-long : c ≡ Long → FollowDone i d p e e-in ea row n unit w₀ w₂ top Over
+          follow-long : c ≡ Long → FollowDone i d p e e-in ea row n unit w₀ w₂ top Over
           follow-long ec =
               followed Over
               (λ b.

@@ -1,40 +1,32 @@
 -- Laws of an inverse whose answer is brought to c.
 --
--- invert-inverse-asks, invert-inverse == the inverse's words are copied
--- invert-level, invert-divisor-asks, invert-divisor == those of a factor
+-- CopyReady                           == what a copy asks for
+-- copies-inverse, gives-inverse       == the inverse's words are copied
+-- invert-level, copies-divisor, gives-divisor == those of a factor
 -- invert-endless                      == number 11
--- copies-inverse, gives-inverse, copies-divisor, gives-divisor == the copies with the size that the code reads
--- invert-number-asks, inverts-number   == at level 0: the inverse of a number
 use Prim.Native.Nat.{ℕ, _+_, _<_, _≤_}
 use native.Mathlib.Omega.{arith}
 use mathlib.Core.Path.{_≡_, refl, ap, sym, _∙_, subst}
 use mathlib.Core.Bool.{Bool}
 use mathlib.Core.Logic.{inl}
-use mathlib.Core.List.{List, [], _∷_}
-use lib.IntN.{ℤ, pos}
-use lib.ListN.{length, getD, set}
+use mathlib.Core.List.{List}
+use lib.IntN.{ℤ}
+use lib.ListN.{length, getD}
 use Rattle.tower.specs.Form.{seg}
-use Rattle.tower.specs.Levels.{El, Tower, Ones}
+use Rattle.tower.specs.Levels.{Ones}
 use Rattle.tower.specs.Lists.{seg-long}
-use Rattle.tower.specs.Store.{Kept, Put, Apart, kept-wide, put-kept, put-seg, put-set}
+use Rattle.tower.specs.Store.{Put, Apart, kept-wide, put-kept, put-seg}
 use Rattle.tower.specs.Work.{inverseWork}
-use Rattle.tower.specs.Writing.{size, size-zero, write-zero}
-use Rattle.residue.specs.Word.{num}
-use Rattle.arithmetic.specs.Rows.{word-of}
-use Rattle.arithmetic.specs.Walk.{pick}
+use Rattle.tower.specs.Writing.{size}
 use Rattle.products.specs.Product.{Worked}
 use Rattle.products.proofs.Frames.{worked-trans, worked-answer, worked-above}
-use Rattle.euclid.specs.Answer.{Answer, done, shown, long}
-use Rattle.euclid.specs.Number.{inverse₀}
-use Rattle.euclid.specs.Shown.{shownWords, shown-fits}
+use Rattle.euclid.specs.Answer.{done, long}
+use Rattle.euclid.specs.Shown.{shown-fits}
 use Rattle.euclid.specs.Towers.{level-of, inv}
 use Rattle.sequences.specs.declared.Ended.{Ended}
 use Rattle.sequences.specs.declared.Ended.the-variants.{Inverse, Divisor, Endless}
-use Rattle.sequences.specs.declared.Outcome.{Outcome}
 use Rattle.sequences.specs.declared.Outcome.the-variants.{Done, Factor, Long}
-use Rattle.sequences.specs.Starts.{NumberReady, Came₀, NumberDone}
 use Rattle.sequences.specs.Outcomes.{Above, Came, Reached, InvertReady, InvertDone, RunDone}
-use Rattle.sequences.proofs.NumberLaws.{held-of}
 use Rattle.sequences.proofs.AnswerLaws.{level-low, reached-inverse, reached-divisor, reached-endless}
 
 -- n words are copied from a place at or above top to c, below it
@@ -80,10 +72,10 @@ module _ {i : ℕ} {d z : List ℕ} {p : ℕ} {e : List ℤ} {e-in : Bool} {ea :
         let k = reached-inverse p (r .run .p-pos) d i (r .run .t) w₁ top o at eo (inv p (r .run .p-pos) d i (r .run .t) (r .run .v)) reached in
         subst (λ y. Above d i (size d i) y top) (sym (k .3)) (k .4)
 
-    pub invert-inverse-asks : CopyReady w₁ c at (size d i)
+    invert-inverse-asks : CopyReady w₁ c at (size d i)
     invert-inverse-asks = copy-from (omega arith) inverse-above
 
-    pub invert-inverse : {w₂ : List ℤ} → Put c (seg at (size d i) w₁) w₁ w₂ → InvertDone i d p e e-in ea x x-in a w₀ w₂ c top Done
+    invert-inverse : {w₂ : List ℤ} → Put c (seg at (size d i) w₁) w₁ w₂ → InvertDone i d p e e-in ea x x-in a w₀ w₂ c top Done
     invert-inverse {w₂} b = record {
       frame = copied (omega arith) inverse-above b .0;
       done = λ p-pos t v ts vs nz.
@@ -106,10 +98,10 @@ module _ {i : ℕ} {d z : List ℕ} {p : ℕ} {e : List ℤ} {e-in : Bool} {ea :
     pub invert-level : l ≤ 4
     invert-level = omega (arith, divisor-above .0, r .run .low)
 
-    pub invert-divisor-asks : CopyReady w₁ c at (size d l)
+    invert-divisor-asks : CopyReady w₁ c at (size d l)
     invert-divisor-asks = copy-from (divisor-above .1) (divisor-above .2)
 
-    pub invert-divisor : {w₂ : List ℤ} → Put c (seg at (size d l) w₁) w₁ w₂ → InvertDone i d p e e-in ea x x-in a w₀ w₂ c top (Factor l)
+    invert-divisor : {w₂ : List ℤ} → Put c (seg at (size d l) w₁) w₁ w₂ → InvertDone i d p e e-in ea x x-in a w₀ w₂ c top (Factor l)
     invert-divisor {w₂} b = record {
       frame = copied (divisor-above .1) (divisor-above .2) b .0;
       done = λ p-pos t v ts vs nz.
@@ -145,36 +137,3 @@ module _ {i : ℕ} {d z : List ℕ} {p : ℕ} {e : List ℤ} {e-in : Bool} {ea :
   pub gives-divisor : {l at : ℕ} → o ≡ Divisor l at → s ≡ getD z l 0 → {w₂ : List ℤ} → Put c (seg at s w₁) w₁ w₂
       → InvertDone i d p e e-in ea x x-in a w₀ w₂ c top (Factor l)
   gives-divisor {l} eo es b = invert-divisor r ran eo (rw (es ∙ r .run .sized .at l (invert-level r ran eo)) at b)
-
--- ---- level 0
--- one word put
-word-put : (d : List ℕ) (w : List ℤ) (c n : ℕ) → c < length w → seg c (size d 0) (set w c (pos n)) ≡ pos n ∷ []
-word-put d w c n l = put-seg (size d 0) (sym (size-zero d)) (put-set w c (pos n) l)
-
-module _ {i : ℕ} {d z : List ℕ} {p : ℕ} {e : List ℤ} {e-in : Bool} {ea : ℕ} {x : List ℤ} {x-in : Bool} {a : ℕ} {w : List ℤ} {c top : ℕ}
-    (none : i ≡ 0) (ready : InvertReady i d z p e e-in ea x x-in a w c top) where
-  r : InvertReady 0 d z p e e-in ea x x-in a w c top
-  r = subst (λ j. InvertReady j d z p e e-in ea x x-in a w c top) none ready
-
-  c-inside : c < length w
-  c-inside = omega (arith, r .c-below, r .run .room, size-zero d)
-
-  pub invert-number-asks : NumberReady p x x-in a w c
-  invert-number-asks = record {
-    modulus = r .run .modulus;
-    two = r .run .two;
-    number = held-of p d (r .run .v) (pick x-in w x) a (r .run .modulus) (omega (arith, r .run .x-inside .inside, size-zero d)) (r .run .element);
-    c-inside = c-inside;
-  }
-
-  pub inverts-number : {w′ : List ℤ} {o : Outcome} → NumberDone p x x-in a w w′ c o → InvertDone i d p e e-in ea x x-in a w w′ c top o
-  unfolding shownWords
-  inverts-number {w′} {o} n = subst (λ j. InvertDone j d p e e-in ea x x-in a w w′ c top o) (sym none) (record {
-    frame = worked-answer (r .c-below) (subst (λ m. Kept c m w w′) (sym (size-zero d)) (n .frame));
-    done = λ p-pos t v ts vs nz. go p-pos t (inverse₀ p p-pos v) (n .done p-pos v (ap num (word-of p d v (pick x-in w x) a vs)) nz);
-  })
-    where
-      go : (p-pos : 0 < p) (t : Tower p d 0) (q : Answer ℕ (El p d 0)) → Came₀ p q o w w′ c → Came p p-pos d 0 t q o w′ c
-      go p-pos t (done u) k = (k .0, ap (seg c (size d 0)) (k .1) ∙ word-put d w c (u .0) c-inside ∙ sym (write-zero p d u))
-      go p-pos t (shown h) k = (k .0, ap (seg c (size d 0)) (k .1) ∙ word-put d w c h c-inside)
-      go p-pos t long k = absurd k

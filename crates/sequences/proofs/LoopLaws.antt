@@ -33,7 +33,8 @@ use Rattle.euclid.specs.Lazy.{Led, led, whole, rest, quot}
 use Rattle.sequences.specs.declared.Turn.{Turn}
 use Rattle.sequences.specs.Rows.{DivideReady, DivideDone, LoseReady, LoseDone}
 use Rattle.sequences.specs.Outcomes.{RunReady, FollowReady, FollowDone, Followed}
-use Rattle.sequences.proofs.PlaceLaws.{Clear, clear-swap, clear-in, apart-in, clear-up, clear-down, worked-apart, besides-apart, besides-kept, same-trans, stands-same, elements-same, work≤inverse, Laid}
+use Rattle.sequences.proofs.PlaceLaws.{Clear, clear-swap, clear-in, apart-in, clear-up, clear-down, worked-apart, besides-apart, besides-kept}
+use Rattle.sequences.proofs.PlaceLaws.{same-trans, stands-same, elements-same, work≤inverse, Laid}
 use Rattle.sequences.proofs.TurnLaws.{Turning, quot-low, lost, lost-low, lost-high}
 use Rattle.sequences.proofs.RunLaws.{underOf, nextOf, levelOf, run-few, run-room, run-tower, run-stands, run-acting}
 
@@ -196,7 +197,9 @@ module _ {h : ℕ} {d z : List ℕ} {p : ℕ} {e : List ℤ} {e-in : Bool} {ea :
       fra₂ = kept-trans fra₁ (worked-on (omega (arith, l .fc-low)) (turn-lose .c-below) (lose .frame))
 
       same₂ : {b n : ℕ} → Clear fc ((g + 1) * s) b n → b + n ≤ nextOf d h top → Same b n w₁ w₂
-      same₂ c q = worked-apart (clear-in (omega arith) (omega arith) (omega arith) (omega (arith, part (quots + lows - 1) (omega (arith, all-few)))) (clear-swap c)) q (lose .frame)
+      same₂ c q =
+          worked-apart (clear-in (omega arith) (omega arith) (omega arith) (omega (arith, part (quots + lows - 1) (omega (arith, all-few)))) (clear-swap c)) q
+          (lose .frame)
 
       -- what is carried next: below it is the loss, above nothing is lost and nothing was there
       lost₂ : Elements p d h g (coef o g (lost L g m v t)) w₂ fc
@@ -219,7 +222,9 @@ module _ {h : ℕ} {d z : List ℕ} {p : ℕ} {e : List ℤ} {e-in : Bool} {ea :
 
       -- ---- the remainder follows
       rest₂ : Elements p d h (k .degree) (coef o (k .degree) (rest R f k)) w₂ fr
-      rest₂ = elements-same p d h (k .degree) _ (same-part (omega arith) (omega (arith, part (k .degree) (omega (arith, k-few)))) (same₂ (clear-swap (l .fr-fc)) (l .fr-high))) rest₁
+      rest₂ =
+          elements-same p d h (k .degree) _
+          (same-part (omega arith) (omega (arith, part (k .degree) (omega (arith, k-few)))) (same₂ (clear-swap (l .fr-fc)) (l .fr-high))) rest₁
 
       fu₂ : Stands p d h (f .unit) w₂ fu
       fu₂ = stands-same p d h _ (same₂ (l .fc-fu) (l .fu-high)) (stands-same p d h _ (same₁ (l .fr-fu) (l .fu-high)) (sf .inverse))
@@ -282,7 +287,8 @@ module _ {h : ℕ} {d z : List ℕ} {p : ℕ} {e : List ℤ} {e-in : Bool} {ea :
         pub turn-keeps : Stood p (r .p-pos) d h k kr kc ku w₃
         turn-keeps = record {
           coefficients =
-              elements-same p d h (suc (k .degree)) _ (same-part (omega arith) (omega (arith, part (suc (k .degree)) (omega (arith, k-few)))) (all-same (l .fr-kr) (l .fc-kr) (l .fu-kr) (l .kr-high)))
+              elements-same p d h (suc (k .degree)) _
+              (same-part (omega arith) (omega (arith, part (suc (k .degree)) (omega (arith, k-few)))) (all-same (l .fr-kr) (l .fc-kr) (l .fu-kr) (l .kr-high)))
               (sk .coefficients);
           carries = elements-same p d h g _ (carried-same (all-same (l .fr-kc) (l .fc-kc) (l .fu-kc) (l .kc-high))) (sk .carries);
           inverse = stands-same p d h _ (all-same (l .fr-ku) (l .fc-ku) (l .fu-ku) (l .ku-high)) (sk .inverse);

@@ -1,6 +1,7 @@
 -- Places in the store: runs of words that have no place in common, and what stands in them while others change.
 --
--- Clear                        == two runs of words have no place in common;  clear-swap, clear-in, apart-in == the other way round; parts of two runs
+-- Clear                        == two runs of words have no place in common;  clear-up, clear-down == one before the other
+-- clear-swap, clear-in, apart-in == the other way round; parts of two runs
 -- worked-apart, besides-apart  == a run outside a frame is as before;  besides-kept == a turn's end changes only words from low on
 -- besides-refl, besides-trans, besides-left, besides-right == nothing changed; one change after another; only one of two runs changed
 -- same-trans                   == one change after another;  stands-same, elements-same == what stands in such a run stands there still

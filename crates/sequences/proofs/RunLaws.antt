@@ -2,8 +2,9 @@
 --
 -- underOf, nextOf == where the words of the tower of level h begin; where the words above the five slots begin
 -- levelOf         == the level below, over which the sequence is taken
--- run-some, run-few, run-room == the numbers
--- run-acting      == what every function on rows asks for, while only words from top on have changed;  run-tower == the tower's words lie before any of these
+-- run-some, run-few, run-small, run-room == the numbers
+-- run-acting      == what every function on rows asks for, while only words from top on have changed
+-- run-tower, run-inside, run-stands == the words of the tower below lie before any of these, and stand there
 -- run-done        == it is enough to know what the elements that the contract shows come to;  shown-above == a factor of a level below is the answer
 -- element-later, run-later, run-earlier == the same asked for from a later store on, and what is done from there on is done from before
 use Prim.Native.Nat.{ℕ, suc, _+_, _*_, _^_, _<_, _≤_}
@@ -47,7 +48,7 @@ module _ {h : ℕ} {d z : List ℕ} {p : ℕ} {e : List ℤ} {e-in : Bool} {ea :
   abbrev pub levelOf : Level
   levelOf = level p (r .p-pos) d h (r .t .0)
 
-  pub run-ones : Ones p (r .p-pos) d (suc h)
+  run-ones : Ones p (r .p-pos) d (suc h)
   run-ones = record { p-two = r .two; degrees = r .positive .some }
 
   -- ---- numbers

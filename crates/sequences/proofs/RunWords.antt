@@ -1,10 +1,12 @@
 -- An inverse above level 0 in the words of the code: I is its level, g the degree and s the size that the code reads one level down.
 --
 -- Sizes, Slots                      == what the code reads; the five slots end below a bound
--- run-level, run-fits, run-under    == the numbers fit
--- run-reads, run-begins, run-count, run-inverts, run-loops, run-shows, run-over == the beginning;  run-ends == what the loop leaves is left from the beginning on
+-- run-level, run-fits, run-under, run-place, turn-place == the numbers fit
+-- run-reads, run-begins, run-count, run-inverts, run-loops, run-shows, run-over == the beginning
+-- run-ends                          == what the loop leaves is left from the beginning on
 -- turn-numbers, turn-divides, turn-loses, turn-follows, turns-on, turns-to, turns-out == a turn
--- ends-factor, ends-inverse and what their steps ask for == the end
+-- factor-scales, factor-finishes, ends-factor    == the end where the remainder was zero
+-- inverse-scales, inverse-finishes, ends-inverse == the end where k is a constant
 use Prim.Native.Nat.{ℕ, suc, _+_, _-_, _*_, _<_, _≤_}
 use native.Mathlib.Nat.{mul-le-mul-left, mul-le-mul-right}
 use native.Mathlib.Omega.{arith}

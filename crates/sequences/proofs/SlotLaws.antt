@@ -1,6 +1,5 @@
 -- Laws of the start of an inverse: five slots above top.
 --
--- run-kept                           == elements outside a frame are as before
 -- Slots, begin-slots                 == nothing wraps
 -- begin-modulus, -element, -none, -zeros, -one, -unit == what each step asks for, in a store as long as the first
 -- begun                              == what stands then

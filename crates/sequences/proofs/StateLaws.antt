@@ -163,7 +163,7 @@ module _ {h : ℕ} {d z : List ℕ} {p : ℕ} {e : List ℤ} {e-in : Bool} {ea :
         follow′ : FollowDone h d p e e-in (underOf d h ea) fr (k .degree) fu w₂ w₃ (nextOf d h top) c
         follow′ = rw k-low at follow
 
-        pub loop-frame : Kept top (inverseWork d (suc h)) w₀ w₃
+        loop-frame : Kept top (inverseWork d (suc h)) w₀ w₃
         loop-frame = turn-frame r (go .turning) some (s .laid) (s .frame) (go .f-stands) (go .k-stands) divided′ lose′ c follow′
 
         -- what the remainder is, and what its leading coefficient's inverse is

@@ -2,10 +2,9 @@
 --
 -- Turning     == two neighbours of the sequence, and that the inverse of v is what the sequence on them comes to
 -- turn-start  == m and v, where the inverse of v's leading coefficient is given
--- lost-low, lost-high, turn-next == what is carried next, by coefficients; the next pair
--- turn-shown  == a factor of a level below is shown;  turn-over == number 11 is not met
--- turn-factor == the remainder is zero, of degree 1 or more the divisor is the factor;  turn-done == of degree 0 it carries the inverse
--- factor-scaled, inverse-scaled  == the coefficients of the two answers
+-- quot-low, lost, lost-low, lost-high == the quotient has few coefficients; what is carried next, by coefficients
+-- turn-next   == the next pair;  turn-shown == a factor of a level below is shown;  turn-some == number 11 is not met
+-- turn-factor == the remainder is zero: of degree 1 or more the divisor is the factor;  turn-done == of degree 0 it carries the inverse
 use mathlib.Core.Path.{_≡_, refl, ap, _∙_}
 use mathlib.Core.Logic.{_⊎_, inl, inr}
 use Prim.Native.Nat.{ℕ, zero, suc, _-_, _≤_, _<_}

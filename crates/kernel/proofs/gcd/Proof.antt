@@ -21,9 +21,8 @@ same-length-3 c = search needs
 returns : tie.Need-returns
 returns c =
     let s = c .before .before .before .before .before .before .before in
-    let x = s .args in
     let found = c .before .before .before .found in
-    gcd-plain (x .e) (x .t .now) (x .a .now) (x .b .now) (x .g .now) (x .f .now) (x .v .now) (found .result) _ _ _ (s .fits .p) (s .fits .n) (found .ensures)
+    gcd-plain (s .fits .p) (s .fits .n) (found .ensures)
 
 pub gcd-spec : {M : Type 1} → statement M
 gcd-spec = tie.close (tie.spec found-requires same-length same-length-2 same-length-3 returns)

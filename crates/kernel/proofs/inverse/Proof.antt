@@ -21,9 +21,8 @@ same-length-3 c = search needs
 returns : tie.Need-returns
 returns c =
     let s = c .before .before .before .before .before .before .before in
-    let x = s .args in
     let inverted = c .before .before .before .inverted in
-    inverse-plain (x .e) (x .t .now) (x .c .now) (x .r .now) (x .f .now) (x .v .now) (inverted .result) _ _ _ (s .fits .p) (s .fits .n) (inverted .ensures)
+    inverse-plain (s .fits .p) (s .fits .n) (inverted .ensures)
 
 pub inverse-spec : {M : Type 1} → statement M
 inverse-spec =

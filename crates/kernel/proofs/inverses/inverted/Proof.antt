@@ -3,8 +3,10 @@ use native.Mathlib.Omega.{arith}
 use mir.Val.{toZ, ofZ}
 use mir.Syntax.{w64}
 use Rattle.tower.specs.Writing.{size-zero}
+use Rattle.kernel.proofs.Order.{zero-of}
 use Rattle.kernel.proofs.Inverting.{inverse-refused, inverse-shape, inverse-plain, run-ready, store-room, lent-some, work-nothing}
-use Rattle.kernel.proofs.Inverting.{number-done, number-shown, number-long, work-room, run-inside, run-given, run-level, run-room, run-shown, run-endless}
+use Rattle.kernel.proofs.Inverting.{number-done, number-shown, number-long, Worked, worked}
+use Rattle.kernel.proofs.Reaching.{work-room, run-inside, run-given, run-level, run-room, run-shown, run-endless}
 use borrow.Author.Needs.{needs}
 use Rattle.kernel.proofs.inverses.inverted.Statement.{statement}
 use Rattle.kernel.proofs.inverses.inverted.Tie as tie
@@ -20,6 +22,48 @@ use Rattle.tower.proofs.sizes.size_at.Reads as size-at-reads
 use Rattle.tower.proofs.store.clear.Reads as clear-reads
 use Rattle.tower.proofs.store.copy_in.Reads as copy-in-reads
 use Rattle.tower.proofs.work.inverse_work.Reads as inverse-work-reads
+
+-- behind the sequence above level 0: what it came to
+abbrev Ran : Type 0
+Ran =
+    lts.After-run (
+      inverse-number-reads.Asked,
+      inverse-number-reads.Learnt,
+      shape-of-reads.Asked,
+      shape-of-reads.Learnt,
+      number-reads.Asked,
+      number-reads.Learnt,
+      invert-reads.Asked,
+      invert-reads.Learnt,
+      copy-in-reads.Asked,
+      copy-in-reads.Learnt,
+      show-reads.Asked,
+      show-reads.Learnt,
+      inverse-work-reads.Asked,
+      inverse-work-reads.Learnt,
+      run-reads.Asked,
+      run-reads.Learnt,
+      clear-reads.Asked,
+      clear-reads.Learnt,
+      size-at-reads.Asked,
+      size-at-reads.Learnt,
+    ) reads.Pre reads.Post
+
+abbrev ran : (c : Ran)
+    → (let x = c .before .before .before .before .before .before .before .before .before .before .before .before .before .before .args in
+    let inverse-number = c .before .before .before .before .before .before .before .before .before .before .inverse-number in
+    Worked (toZ w64 (ofZ w64 (x .p))) (toZ w64 (ofZ w64 (x .n))) (x .e) (x .t .now) (x .c .now) (x .r .now) (x .f .now) (x .v .now)
+    (sym (zero-of (inverse-number .result) (c .before .before .before .before .before .before .before .before .before .if1 .left) ∙ inverse-number .ensures)))
+ran c =
+    let x = c .before .before .before .before .before .before .before .before .before .before .before .before .before .before .args in
+    let inverse-number = c .before .before .before .before .before .before .before .before .before .before .inverse-number in
+    let if1 = c .before .before .before .before .before .before .before .before .before .if1 in
+    let shape-of = c .before .before .before .before .before .before .before .before .shape-of in
+    let inverse-work = c .before .before .before .inverse-work in
+    let number2 = c .before .before .number2 in
+    worked (toZ w64 (ofZ w64 (x .p))) (toZ w64 (ofZ w64 (x .n))) (x .e) (x .t .now) (x .c .now) (x .r .now) (x .f .now) (x .v .now)
+    (sym (zero-of (inverse-number .result) (if1 .left) ∙ inverse-number .ensures)) (shape-of .result) (shape-of .ensures) (number2 .result) (number2 .ensures)
+    (inverse-work .result) (inverse-work .ensures .0) _ (c .run .result) (c .run .ensures)
 
 inverse-number-requires : tie.Need-inverse-number-requires
 inverse-number-requires c κs = search needs
@@ -41,7 +85,7 @@ returns c =
     let n = toZ w64 (ofZ w64 (x .n)) in
     let inverse-number = c .before .inverse-number in
     let if1 = c .if1 in
-    inverse-plain (x .e) (x .t .now) (x .c .now) (x .r .now) (x .f .now) (x .v .now) _ _ _ _ (s .fits .p) (s .fits .n)
+    inverse-plain (s .fits .p) (s .fits .n)
     (inverse-refused p n (x .e) (x .t .now) (x .c .now) (x .r .now) (x .f .now) (x .v .now) (inverse-number .result) (inverse-number .ensures) (if1 .taken))
 
 shape-of-requires : tie.Need-shape-of-requires
@@ -51,7 +95,7 @@ shape-of-requires c κs =
     let n = toZ w64 (ofZ w64 (x .n)) in
     let inverse-number = c .before .inverse-number in
     let if1 = c .if1 in
-    inverse-shape p n (x .e) (x .t .now) (x .c .now) (x .r .now) (x .f .now) (x .v .now) (inverse-number .result) (inverse-number .ensures) (if1 .left)
+    inverse-shape p n (x .e) (x .t .now) (x .c .now) (x .r .now) (x .f .now) (x .v .now) (sym (zero-of (inverse-number .result) (if1 .left) ∙ inverse-number .ensures))
 
 number-requires : tie.Need-number-requires
 number-requires c κs = search needs
@@ -70,8 +114,8 @@ invert-requires c κs =
     let if2 = c .before .before .if2 in
     let number = c .before .number in
     record {
-      run = run-ready p n (x .e) (x .t .now) (x .c .now) (x .r .now) (x .f .now) (x .v .now) (inverse-number .result) (inverse-number .ensures)
-          (if1 .left) (shape-of .result) (shape-of .ensures) (number .result) (number .ensures) 0 (sym (if2 .taken) ∙ shape-of .ensures .levels) _ 1
+      run = run-ready p n (x .e) (x .t .now) (x .c .now) (x .r .now) (x .f .now) (x .v .now) (sym (zero-of (inverse-number .result) (if1 .left) ∙ inverse-number .ensures))
+          (shape-of .result) (shape-of .ensures) (number .result) (number .ensures) 0 (sym (if2 .taken) ∙ shape-of .ensures .levels) _ 1
           (omega (arith, work-nothing (shape-of .result .degrees) 0 refl));
       c-below = omega (arith, size-zero (shape-of .result .degrees));
     }
@@ -84,7 +128,8 @@ slice-aggregate-copy-in c = search needs
 
 copy-in-requires : tie.Need-copy-in-requires
 copy-in-requires c κs =
-    let x = c .before .before .before .before .before .before .before .before .before .before .before .before .before .before .before .before .before .before .args in
+    let back = c .before .before .before .before .before .before .before .before .before .before .before .before .before .before in
+    let x = back .before .before .before .before .args in
     let p = toZ w64 (ofZ w64 (x .p)) in
     let n = toZ w64 (ofZ w64 (x .n)) in
     let inverse-number = c .before .before .before .before .before .before .before .before .before .before .before .before .before .before .inverse-number in
@@ -92,8 +137,8 @@ copy-in-requires c κs =
     let shape-of = c .before .before .before .before .before .before .before .before .before .before .before .before .shape-of in
     let number = c .before .before .before .before .before .before .before .number in
     let invert = c .before .before .before .before .before .invert in
-    let some = lent-some p n (x .e) (x .t .now) (x .c .now) (x .r .now) (x .f .now) (x .v .now) (inverse-number .result) (inverse-number .ensures)
-    (if1 .left) (shape-of .result) (shape-of .ensures) (number .result) (number .ensures) in
+    let some = lent-some p n (x .e) (x .t .now) (x .c .now) (x .r .now) (x .f .now) (x .v .now) (sym (zero-of (inverse-number .result) (if1 .left) ∙ inverse-number .ensures))
+    (shape-of .result) (shape-of .ensures) (number .result) (number .ensures) in
     (omega (arith, invert .ensures .frame .long), omega (arith, some .0))
 
 enum-known-level : tie.Need-enum-known-level
@@ -104,7 +149,8 @@ slice-aggregate-show c = search needs
 
 show-requires : tie.Need-show-requires
 show-requires c κs =
-    let x = c .before .before .before .before .before .before .before .before .before .before .before .before .before .before .before .before .before .before .before .args in
+    let back = c .before .before .before .before .before .before .before .before .before .before .before .before .before .before in
+    let x = back .before .before .before .before .before .args in
     let p = toZ w64 (ofZ w64 (x .p)) in
     let n = toZ w64 (ofZ w64 (x .n)) in
     let inverse-number = c .before .before .before .before .before .before .before .before .before .before .before .before .before .before .before .inverse-number in
@@ -112,8 +158,8 @@ show-requires c κs =
     let shape-of = c .before .before .before .before .before .before .before .before .before .before .before .before .before .shape-of in
     let number = c .before .before .before .before .before .before .before .before .number in
     let invert = c .before .before .before .before .before .before .invert in
-    let some = lent-some p n (x .e) (x .t .now) (x .c .now) (x .r .now) (x .f .now) (x .v .now) (inverse-number .result) (inverse-number .ensures)
-    (if1 .left) (shape-of .result) (shape-of .ensures) (number .result) (number .ensures) in
+    let some = lent-some p n (x .e) (x .t .now) (x .c .now) (x .r .now) (x .f .now) (x .v .now) (sym (zero-of (inverse-number .result) (if1 .left) ∙ inverse-number .ensures))
+    (shape-of .result) (shape-of .ensures) (number .result) (number .ensures) in
     (omega (arith, invert .ensures .frame .long), omega (arith, some .1))
 
 enum-told-2 : tie.Need-enum-told-2
@@ -130,7 +176,8 @@ same-length-6 c = search needs
 
 returns-2 : tie.Need-returns-2
 returns-2 c =
-    let s = c .before .before .before .before .before .before .before .before .before .before .before .before .before .before .before .before .before .before .before .before in
+    let back = c .before .before .before .before .before .before .before .before .before .before .before .before .before .before in
+    let s = back .before .before .before .before .before .before in
     let x = s .args in
     let p = toZ w64 (ofZ w64 (x .p)) in
     let n = toZ w64 (ofZ w64 (x .n)) in
@@ -142,9 +189,9 @@ returns-2 c =
     let invert = c .before .before .before .before .before .before .before .invert in
     let enum-told = c .before .before .before .before .enum-told in
     let copy-in = c .before .copy-in in
-    inverse-plain (x .e) (x .t .now) (x .c .now) (x .r .now) (x .f .now) (x .v .now) _ _ _ _ (s .fits .p) (s .fits .n)
-    (number-done p n (x .e) (x .t .now) (x .c .now) (x .r .now) (x .f .now) (x .v .now) (inverse-number .result) (inverse-number .ensures)
-    (if1 .left) (shape-of .result) (shape-of .ensures) (number .result) (number .ensures) (if2 .taken) _ _ (invert .result) (invert .ensures) (enum-told .given .1) _ (copy-in .ensures))
+    inverse-plain (s .fits .p) (s .fits .n)
+    (number-done p n (x .e) (x .t .now) (x .c .now) (x .r .now) (x .f .now) (x .v .now) (sym (zero-of (inverse-number .result) (if1 .left) ∙ inverse-number .ensures))
+    (shape-of .result) (shape-of .ensures) (number .result) (number .ensures) (if2 .taken) _ _ (invert .result) (invert .ensures) (enum-told .given .1) _ (copy-in .ensures))
 
 same-length-7 : tie.Need-same-length-7
 same-length-7 c = search needs
@@ -157,11 +204,12 @@ same-length-9 c = search needs
 
 returns-3 : tie.Need-returns-3
 returns-3 c =
-    let s = c .before .before .before .before .before .before .before .before .before .before .before .before .before .before .before .before .before .before .before .before .before in
+    let back = c .before .before .before .before .before .before .before .before .before .before .before .before .before .before in
+    let s = back .before .before .before .before .before .before .before in
     let x = s .args in
     let p = toZ w64 (ofZ w64 (x .p)) in
     let n = toZ w64 (ofZ w64 (x .n)) in
-    let inverse-number = c .before .before .before .before .before .before .before .before .before .before .before .before .before .before .before .before .before .inverse-number in
+    let inverse-number = back .before .before .before .inverse-number in
     let if1 = c .before .before .before .before .before .before .before .before .before .before .before .before .before .before .before .before .if1 in
     let shape-of = c .before .before .before .before .before .before .before .before .before .before .before .before .before .before .before .shape-of in
     let if2 = c .before .before .before .before .before .before .before .before .before .before .before .if2 in
@@ -169,9 +217,10 @@ returns-3 c =
     let invert = c .before .before .before .before .before .before .before .before .invert in
     let level = c .before .before .before .before .before .level in
     let show = c .before .show in
-    inverse-plain (x .e) (x .t .now) (x .c .now) (x .r .now) (x .f .now) (x .v .now) _ _ _ _ (s .fits .p) (s .fits .n)
-    (number-shown p n (x .e) (x .t .now) (x .c .now) (x .r .now) (x .f .now) (x .v .now) (inverse-number .result) (inverse-number .ensures)
-    (if1 .left) (shape-of .result) (shape-of .ensures) (number .result) (number .ensures) (if2 .taken) _ _ (invert .result) (invert .ensures) (level .given .0 .0) (level .given .1) _ (show .ensures))
+    inverse-plain (s .fits .p) (s .fits .n)
+    (number-shown p n (x .e) (x .t .now) (x .c .now) (x .r .now) (x .f .now) (x .v .now) (sym (zero-of (inverse-number .result) (if1 .left) ∙ inverse-number .ensures))
+    (shape-of .result) (shape-of .ensures) (number .result) (number .ensures) (if2 .taken) _ _ (invert .result) (invert .ensures)
+    (level .given .0 .0) (level .given .1) _ (show .ensures))
 
 same-length-10 : tie.Need-same-length-10
 same-length-10 c = search needs
@@ -195,9 +244,9 @@ returns-4 c =
     let number = c .before .before .before .before .before .number in
     let invert = c .before .before .before .invert in
     let enum-told2 = c .enum-told2 in
-    inverse-plain (x .e) (x .t .now) (x .c .now) (x .r .now) (x .f .now) (x .v .now) _ _ _ _ (s .fits .p) (s .fits .n)
-    (number-long p n (x .e) (x .t .now) (x .c .now) (x .r .now) (x .f .now) (x .v .now) (inverse-number .result) (inverse-number .ensures)
-    (if1 .left) (shape-of .result) (shape-of .ensures) (number .result) (number .ensures) (if2 .taken) _ _ (invert .result) (invert .ensures) (enum-told2 .given .1))
+    inverse-plain (s .fits .p) (s .fits .n)
+    (number-long p n (x .e) (x .t .now) (x .c .now) (x .r .now) (x .f .now) (x .v .now) (sym (zero-of (inverse-number .result) (if1 .left) ∙ inverse-number .ensures))
+    (shape-of .result) (shape-of .ensures) (number .result) (number .ensures) (if2 .taken) _ _ (invert .result) (invert .ensures) (enum-told2 .given .1))
 
 inverse-work-requires : tie.Need-inverse-work-requires
 inverse-work-requires c κs = search needs
@@ -216,10 +265,10 @@ run-requires c κs =
     let if2 = c .before .before .before .if2 in
     let number2 = c .before .number2 in (
       omega (arith, if2 .left),
-      run-ready p n (x .e) (x .t .now) (x .c .now) (x .r .now) (x .f .now) (x .v .now) (inverse-number .result) (inverse-number .ensures)
-          (if1 .left) (shape-of .result) (shape-of .ensures) (number2 .result) (number2 .ensures) (shape-of .result .levels) (shape-of .ensures .levels) _ 0
-          (store-room p n (x .e) (x .t .now) (x .c .now) (x .r .now) (x .f .now) (x .v .now) (inverse-number .result) (inverse-number .ensures)
-          (if1 .left) (shape-of .result) (shape-of .ensures) (number2 .result) (number2 .ensures)),
+      run-ready p n (x .e) (x .t .now) (x .c .now) (x .r .now) (x .f .now) (x .v .now) (sym (zero-of (inverse-number .result) (if1 .left) ∙ inverse-number .ensures))
+          (shape-of .result) (shape-of .ensures) (number2 .result) (number2 .ensures) (shape-of .result .levels) (shape-of .ensures .levels) _ 0
+          (store-room p n (x .e) (x .t .now) (x .c .now) (x .r .now) (x .f .now) (x .v .now) (sym (zero-of (inverse-number .result) (if1 .left) ∙ inverse-number .ensures))
+          (shape-of .result) (shape-of .ensures) (number2 .result) (number2 .ensures)),
     )
 
 enum-known-at : tie.Need-enum-known-at
@@ -227,108 +276,43 @@ enum-known-at c = search needs
 
 copy-in-requires-2 : tie.Need-copy-in-requires-2
 copy-in-requires-2 c κs =
-    let x = c .before .before .before .before .before .before .before .before .before .before .before .before .before .before .before .before .before .before .before .before .args in
-    let p = toZ w64 (ofZ w64 (x .p)) in
-    let n = toZ w64 (ofZ w64 (x .n)) in
-    let inverse-number = c .before .before .before .before .before .before .before .before .before .before .before .before .before .before .before .before .inverse-number in
-    let if1 = c .before .before .before .before .before .before .before .before .before .before .before .before .before .before .before .if1 in
-    let shape-of = c .before .before .before .before .before .before .before .before .before .before .before .before .before .before .shape-of in
-    let inverse-work = c .before .before .before .before .before .before .before .before .before .inverse-work in
-    let number2 = c .before .before .before .before .before .before .before .before .number2 in
-    let run = c .before .before .before .before .before .before .run in
+    let k = c .before .before .before .before .before .before in
     let at = c .before .before .before .at in
-    let h = run-inside p n (x .e) (x .t .now) (x .c .now) (x .r .now) (x .f .now) (x .v .now) (inverse-number .result) (inverse-number .ensures)
-    (if1 .left) (shape-of .result) (shape-of .ensures) (number2 .result) (number2 .ensures) (inverse-work .result) (inverse-work .ensures .0) _ (run .result) (run .ensures) (at .given .0 .0) (at .given .1) in
-    (omega (arith, h .0), omega (arith, h .1))
+    run-inside (ran k) (at .given .0 .0) (at .given .1)
 
 clear-requires : tie.Need-clear-requires
 clear-requires c κs =
-    let x = c .before .before .before .before .before .before .before .before .before .before .before .before .before .before .before .before .before .before .before .before .before .before .before .args in
-    let p = toZ w64 (ofZ w64 (x .p)) in
-    let n = toZ w64 (ofZ w64 (x .n)) in
-    let inverse-number = c .before .before .before .before .before .before .before .before .before .before .before .before .before .before .before .before .before .before .before .inverse-number in
-    let if1 = c .before .before .before .before .before .before .before .before .before .before .before .before .before .before .before .before .before .before .if1 in
-    let shape-of = c .before .before .before .before .before .before .before .before .before .before .before .before .before .before .before .before .before .shape-of in
-    let inverse-work = c .before .before .before .before .before .before .before .before .before .before .before .before .inverse-work in
-    let number2 = c .before .before .before .before .before .before .before .before .before .before .before .number2 in
-    let run = c .before .before .before .before .before .before .before .before .before .run in
-    omega (
-      arith,
-      work-room p n (x .e) (x .t .now) (x .c .now) (x .r .now) (x .f .now) (x .v .now) (inverse-number .result) (inverse-number .ensures)
-          (if1 .left) (shape-of .result) (shape-of .ensures) (number2 .result) (number2 .ensures) (inverse-work .result) (inverse-work .ensures .0) _ (run .result) (run .ensures),
-    )
+    let k = c .before .before .before .before .before .before .before .before .before in
+    omega (arith, work-room (ran k))
 
 enum-known-level-2 : tie.Need-enum-known-level-2
 enum-known-level-2 c = search needs
 
 size-at-requires : tie.Need-size-at-requires
 size-at-requires c κs =
-    let x = c .before .before .before .before .before .before .before .before .before .before .before .before .before .before .before .before .before .before .before .args in
-    let p = toZ w64 (ofZ w64 (x .p)) in
-    let n = toZ w64 (ofZ w64 (x .n)) in
-    let inverse-number = c .before .before .before .before .before .before .before .before .before .before .before .before .before .before .before .inverse-number in
-    let if1 = c .before .before .before .before .before .before .before .before .before .before .before .before .before .before .if1 in
-    let shape-of = c .before .before .before .before .before .before .before .before .before .before .before .before .before .shape-of in
-    let inverse-work = c .before .before .before .before .before .before .before .before .inverse-work in
-    let number2 = c .before .before .before .before .before .before .before .number2 in
-    let run = c .before .before .before .before .before .run in
+    let k = c .before .before .before .before .before in
     let level2 = c .before .before .level2 in
-    run-level p n (x .e) (x .t .now) (x .c .now) (x .r .now) (x .f .now) (x .v .now) (inverse-number .result) (inverse-number .ensures)
-    (if1 .left) (shape-of .result) (shape-of .ensures) (number2 .result) (number2 .ensures) (inverse-work .result) (inverse-work .ensures .0) _ (run .result) (run .ensures) (level2 .given .0 .0) (level2 .given .0 .1 .0) (level2 .given .1)
+    run-level (ran k) (level2 .given .0 .0) (level2 .given .0 .1 .0) (level2 .given .1)
 
 show-requires-2 : tie.Need-show-requires-2
 show-requires-2 c κs =
-    let x = c .before .before .before .before .before .before .before .before .before .before .before .before .before .before .before .before .before .before .before .before .before .args in
-    let p = toZ w64 (ofZ w64 (x .p)) in
-    let n = toZ w64 (ofZ w64 (x .n)) in
-    let inverse-number = c .before .before .before .before .before .before .before .before .before .before .before .before .before .before .before .before .before .inverse-number in
-    let if1 = c .before .before .before .before .before .before .before .before .before .before .before .before .before .before .before .before .if1 in
-    let shape-of = c .before .before .before .before .before .before .before .before .before .before .before .before .before .before .before .shape-of in
-    let inverse-work = c .before .before .before .before .before .before .before .before .before .before .inverse-work in
-    let number2 = c .before .before .before .before .before .before .before .before .before .number2 in
-    let run = c .before .before .before .before .before .before .before .run in
+    let k = c .before .before .before .before .before .before .before in
     let level2 = c .before .before .before .before .level2 in
     let size-at = c .before .size-at in
-    run-room p n (x .e) (x .t .now) (x .c .now) (x .r .now) (x .f .now) (x .v .now) (inverse-number .result) (inverse-number .ensures)
-    (if1 .left) (shape-of .result) (shape-of .ensures) (number2 .result) (number2 .ensures) (inverse-work .result) (inverse-work .ensures .0) _ (run .result) (run .ensures) (level2 .given .0 .0) (level2 .given .0 .1 .0) (level2 .given .1)
-    (size-at .result) (size-at .ensures)
+    run-room (ran k) (level2 .given .0 .0) (level2 .given .0 .1 .0) (level2 .given .1) (size-at .result) (size-at .ensures)
 
 clear-requires-2 : tie.Need-clear-requires-2
 clear-requires-2 c κs =
-    let x = c .before .before .before .before .before .before .before .before .before .before .before .before .before .before .before .before .before .before .before .before .before .before .before .before .args in
-    let p = toZ w64 (ofZ w64 (x .p)) in
-    let n = toZ w64 (ofZ w64 (x .n)) in
-    let inverse-number = c .before .before .before .before .before .before .before .before .before .before .before .before .before .before .before .before .before .before .before .before .inverse-number in
-    let if1 = c .before .before .before .before .before .before .before .before .before .before .before .before .before .before .before .before .before .before .before .if1 in
-    let shape-of = c .before .before .before .before .before .before .before .before .before .before .before .before .before .before .before .before .before .before .shape-of in
-    let inverse-work = c .before .before .before .before .before .before .before .before .before .before .before .before .before .inverse-work in
-    let number2 = c .before .before .before .before .before .before .before .before .before .before .before .before .number2 in
-    let run = c .before .before .before .before .before .before .before .before .before .before .run in
-    omega (
-      arith,
-      work-room p n (x .e) (x .t .now) (x .c .now) (x .r .now) (x .f .now) (x .v .now) (inverse-number .result) (inverse-number .ensures)
-          (if1 .left) (shape-of .result) (shape-of .ensures) (number2 .result) (number2 .ensures) (inverse-work .result) (inverse-work .ensures .0) _ (run .result) (run .ensures),
-    )
+    let k = c .before .before .before .before .before .before .before .before .before .before in
+    omega (arith, work-room (ran k))
 
 enum-told-3 : tie.Need-enum-told-3
 enum-told-3 c = search needs
 
 clear-requires-3 : tie.Need-clear-requires-3
 clear-requires-3 c κs =
-    let x = c .before .before .before .before .before .before .before .before .before .before .before .before .before .before .before .before .before .before .args in
-    let p = toZ w64 (ofZ w64 (x .p)) in
-    let n = toZ w64 (ofZ w64 (x .n)) in
-    let inverse-number = c .before .before .before .before .before .before .before .before .before .before .before .before .before .before .inverse-number in
-    let if1 = c .before .before .before .before .before .before .before .before .before .before .before .before .before .if1 in
-    let shape-of = c .before .before .before .before .before .before .before .before .before .before .before .before .shape-of in
-    let inverse-work = c .before .before .before .before .before .before .before .inverse-work in
-    let number2 = c .before .before .before .before .before .before .number2 in
-    let run = c .before .before .before .before .run in
-    omega (
-      arith,
-      work-room p n (x .e) (x .t .now) (x .c .now) (x .r .now) (x .f .now) (x .v .now) (inverse-number .result) (inverse-number .ensures)
-          (if1 .left) (shape-of .result) (shape-of .ensures) (number2 .result) (number2 .ensures) (inverse-work .result) (inverse-work .ensures .0) _ (run .result) (run .ensures),
-    )
+    let k = c .before .before .before .before in
+    omega (arith, work-room (ran k))
 
 same-length-13 : tie.Need-same-length-13
 same-length-13 c = search needs
@@ -341,22 +325,14 @@ same-length-15 c = search needs
 
 returns-5 : tie.Need-returns-5
 returns-5 c =
-    let s = c .before .before .before .before .before .before .before .before .before .before .before .before .before .before .before .before .before .before .before .before .before .before .before .before .before in
-    let x = s .args in
-    let p = toZ w64 (ofZ w64 (x .p)) in
-    let n = toZ w64 (ofZ w64 (x .n)) in
-    let inverse-number = c .before .before .before .before .before .before .before .before .before .before .before .before .before .before .before .before .before .before .before .before .before .inverse-number in
-    let if1 = c .before .before .before .before .before .before .before .before .before .before .before .before .before .before .before .before .before .before .before .before .if1 in
-    let shape-of = c .before .before .before .before .before .before .before .before .before .before .before .before .before .before .before .before .before .before .before .shape-of in
-    let inverse-work = c .before .before .before .before .before .before .before .before .before .before .before .before .before .before .inverse-work in
-    let number2 = c .before .before .before .before .before .before .before .before .before .before .before .before .before .number2 in
-    let run = c .before .before .before .before .before .before .before .before .before .before .before .run in
+    let back = c .before .before .before .before .before .before .before .before .before .before .before .before .before .before in
+    let k = c .before .before .before .before .before .before .before .before .before .before .before in
+    let s = back .before .before .before .before .before .before .before .before .before .before .before in
     let at = c .before .before .before .before .before .before .before .before .at in
     let copy-in2 = c .before .before .before .before .copy-in2 in
     let clear = c .before .clear in
-    inverse-plain (x .e) (x .t .now) (x .c .now) (x .r .now) (x .f .now) (x .v .now) _ _ _ _ (s .fits .p) (s .fits .n)
-    (run-given p n (x .e) (x .t .now) (x .c .now) (x .r .now) (x .f .now) (x .v .now) (inverse-number .result) (inverse-number .ensures)
-    (if1 .left) (shape-of .result) (shape-of .ensures) (number2 .result) (number2 .ensures) (inverse-work .result) (inverse-work .ensures .0) _ (run .result) (run .ensures) (at .given .0 .0) (at .given .1) _ (copy-in2 .ensures) _ (clear .ensures))
+    inverse-plain (s .fits .p) (s .fits .n)
+    (run-given (ran k) (at .given .0 .0) (at .given .1) _ (copy-in2 .ensures) _ (clear .ensures))
 
 same-length-16 : tie.Need-same-length-16
 same-length-16 c = search needs
@@ -369,24 +345,16 @@ same-length-18 c = search needs
 
 returns-6 : tie.Need-returns-6
 returns-6 c =
-    let s = c .before .before .before .before .before .before .before .before .before .before .before .before .before .before .before .before .before .before .before .before .before .before .before .before .before .before in
-    let x = s .args in
-    let p = toZ w64 (ofZ w64 (x .p)) in
-    let n = toZ w64 (ofZ w64 (x .n)) in
-    let inverse-number = c .before .before .before .before .before .before .before .before .before .before .before .before .before .before .before .before .before .before .before .before .before .before .inverse-number in
-    let if1 = c .before .before .before .before .before .before .before .before .before .before .before .before .before .before .before .before .before .before .before .before .before .if1 in
-    let shape-of = c .before .before .before .before .before .before .before .before .before .before .before .before .before .before .before .before .before .before .before .before .shape-of in
-    let inverse-work = c .before .before .before .before .before .before .before .before .before .before .before .before .before .before .before .inverse-work in
-    let number2 = c .before .before .before .before .before .before .before .before .before .before .before .before .before .before .number2 in
-    let run = c .before .before .before .before .before .before .before .before .before .before .before .before .run in
+    let back = c .before .before .before .before .before .before .before .before .before .before .before .before .before .before in
+    let k = c .before .before .before .before .before .before .before .before .before .before .before .before in
+    let s = back .before .before .before .before .before .before .before .before .before .before .before .before in
     let level2 = c .before .before .before .before .before .before .before .before .before .level2 in
     let size-at = c .before .before .before .before .before .before .size-at in
     let show2 = c .before .before .before .before .show2 in
     let clear2 = c .before .clear2 in
-    inverse-plain (x .e) (x .t .now) (x .c .now) (x .r .now) (x .f .now) (x .v .now) _ _ _ _ (s .fits .p) (s .fits .n)
-    (run-shown p n (x .e) (x .t .now) (x .c .now) (x .r .now) (x .f .now) (x .v .now) (inverse-number .result) (inverse-number .ensures)
-    (if1 .left) (shape-of .result) (shape-of .ensures) (number2 .result) (number2 .ensures) (inverse-work .result) (inverse-work .ensures .0) _ (run .result) (run .ensures) (level2 .given .0 .0) (level2 .given .0 .1 .0) (level2 .given .1)
-    (size-at .result) (size-at .ensures) _ (show2 .ensures) _ (clear2 .ensures))
+    inverse-plain (s .fits .p) (s .fits .n)
+    (run-shown (ran k) (level2 .given .0 .0) (level2 .given .0 .1 .0) (level2 .given .1) (size-at .result) (size-at .ensures)
+    _ (show2 .ensures) _ (clear2 .ensures))
 
 same-length-19 : tie.Need-same-length-19
 same-length-19 c = search needs
@@ -399,21 +367,13 @@ same-length-21 c = search needs
 
 returns-7 : tie.Need-returns-7
 returns-7 c =
-    let s = c .before .before .before .before .before .before .before .before .before .before .before .before .before .before .before .before .before .before .before .before in
-    let x = s .args in
-    let p = toZ w64 (ofZ w64 (x .p)) in
-    let n = toZ w64 (ofZ w64 (x .n)) in
-    let inverse-number = c .before .before .before .before .before .before .before .before .before .before .before .before .before .before .before .before .inverse-number in
-    let if1 = c .before .before .before .before .before .before .before .before .before .before .before .before .before .before .before .if1 in
-    let shape-of = c .before .before .before .before .before .before .before .before .before .before .before .before .before .before .shape-of in
-    let inverse-work = c .before .before .before .before .before .before .before .before .before .inverse-work in
-    let number2 = c .before .before .before .before .before .before .before .before .number2 in
-    let run = c .before .before .before .before .before .before .run in
+    let back = c .before .before .before .before .before .before .before .before .before .before .before .before .before .before in
+    let k = c .before .before .before .before .before .before in
+    let s = back .before .before .before .before .before .before in
     let enum-told3 = c .before .before .before .enum-told3 in
     let clear3 = c .before .clear3 in
-    inverse-plain (x .e) (x .t .now) (x .c .now) (x .r .now) (x .f .now) (x .v .now) _ _ _ _ (s .fits .p) (s .fits .n)
-    (run-endless p n (x .e) (x .t .now) (x .c .now) (x .r .now) (x .f .now) (x .v .now) (inverse-number .result) (inverse-number .ensures)
-    (if1 .left) (shape-of .result) (shape-of .ensures) (number2 .result) (number2 .ensures) (inverse-work .result) (inverse-work .ensures .0) _ (run .result) (run .ensures) (enum-told3 .given .1) _ (clear3 .ensures))
+    inverse-plain (s .fits .p) (s .fits .n)
+    (run-endless (ran k) (enum-told3 .given .1) _ (clear3 .ensures))
 
 pub inverted-spec : {M : Type 1} → statement M
 inverted-spec =

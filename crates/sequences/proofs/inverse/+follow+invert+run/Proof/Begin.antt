@@ -138,15 +138,7 @@ pub enum-known-level : (t : ℕ) → run-lts.Need-enum-known-level (cs t) (run-a
 enum-known-level t c = search needs
 
 pub same-length : (t : ℕ) → run-lts.Need-same-length (cs t) (run-at t) run.Post Inv-loop μ-loop
-same-length t c =
-    let s = c .before .before .before .before .before .before .before .before .before .before .before .before .before .before .before in
-    let sized = sizes t (c .before .before .before .before .before .before .before .before .before .before .before .before) in
-    let count-in = c .before .before .before .before .before .before .before .before .before .before .count-in in
-    let begin = c .before .before .before .before .before .before .before .before .begin in
-    let part-at = c .before .before .before .before .before .before .part-at in
-    let invert = c .before .before .before .before .invert in
-    let level = c .before .level in
-    run-shows (s .pre .1) sized (count-in .ensures) (begin .ensures) (part-at .ensures) (invert .result) (invert .ensures) _ (level .given .1) .frame .long
+same-length t c = search needs
 
 pub returns : (t : ℕ) → run-lts.Need-returns (cs t) (run-at t) run.Post Inv-loop μ-loop
 returns t c =
@@ -163,15 +155,7 @@ pub enum-told-2 : (t : ℕ) → run-lts.Need-enum-told-2 (cs t) (run-at t) run.P
 enum-told-2 t c = search needs
 
 pub same-length-2 : (t : ℕ) → run-lts.Need-same-length-2 (cs t) (run-at t) run.Post Inv-loop μ-loop
-same-length-2 t c =
-    let s = c .before .before .before .before .before .before .before .before .before .before .before .before .before .before in
-    let sized = sizes t (c .before .before .before .before .before .before .before .before .before .before .before) in
-    let count-in = c .before .before .before .before .before .before .before .before .before .count-in in
-    let begin = c .before .before .before .before .before .before .before .begin in
-    let part-at = c .before .before .before .before .before .part-at in
-    let invert = c .before .before .before .invert in
-    let enum-told2 = c .enum-told2 in
-    absurd (run-over (s .pre .1) sized (count-in .ensures) (begin .ensures) (part-at .ensures) (invert .result) (invert .ensures) (enum-told2 .given .1))
+same-length-2 t c = search needs
 
 pub returns-2 : (t : ℕ) → run-lts.Need-returns-2 (cs t) (run-at t) run.Post Inv-loop μ-loop
 returns-2 t c =

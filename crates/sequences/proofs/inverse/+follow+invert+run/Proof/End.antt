@@ -9,36 +9,40 @@ use Rattle.sequences.proofs.inverse.+follow+invert+run.Proof.Loop.{cs, 
 
 pub scale-row-requires : (t : ℕ) → run-lts.Need-scale-row-requires (cs t) (run-at t) run.Post Inv-loop μ-loop
 scale-row-requires t c κs =
-    let sized = sizes t (c .before .before .before .before .before .before .before .before .before .before .before .before .before .before .before .before .before) in
-    let loop = c .before .before .before .before .before .loop in
+    let outer = c .before .before .before .before .before in
+    let sized = sizes t (outer .before .before .before .before .before .before .before .before .before .before .before .before) in
+    let loop = outer .loop in
     let if3 = c .before .if3 in
     factor-scales sized (loop .inv) (if3 .taken)
 
 pub finish-requires : (t : ℕ) → run-lts.Need-finish-requires (cs t) (run-at t) run.Post Inv-loop μ-loop
 finish-requires t c κs =
-    let sized = sizes t (c .before .before .before .before .before .before .before .before .before .before .before .before .before .before .before .before .before .before .before .before) in
-    let loop = c .before .before .before .before .before .before .before .before .loop in
+    let outer = c .before .before .before .before .before .before .before .before in
+    let sized = sizes t (outer .before .before .before .before .before .before .before .before .before .before .before .before) in
+    let loop = outer .loop in
     let if3 = c .before .before .before .before .if3 in
     let scale-row = c .before .before .scale-row in
     factor-finishes sized (loop .inv) (if3 .taken) (scale-row .ensures)
 
 pub sub-t64 : (t : ℕ) → run-lts.Need-sub-t64 (cs t) (run-at t) run.Post Inv-loop μ-loop
 sub-t64 t c =
-    let sized = sizes t (c .before .before .before .before .before .before .before .before .before .before .before .before .before .before .before .before .before .before .before .before .before .before .before) in
-    let loop = c .before .before .before .before .before .before .before .before .before .before .before .loop in
+    let outer = c .before .before .before .before .before .before .before .before .before .before .before in
+    let sized = sizes t (outer .before .before .before .before .before .before .before .before .before .before .before .before) in
+    let loop = outer .loop in
     let if3 = c .before .before .before .before .before .before .before .if3 in
     let scale-row = c .before .before .before .before .before .scale-row in
     factor-finishes sized (loop .inv) (if3 .taken) (scale-row .ensures) .behind
 
 pub same-length-6 : (t : ℕ) → run-lts.Need-same-length-6 (cs t) (run-at t) run.Post Inv-loop μ-loop
 same-length-6 t c =
-    let s = c .before .before .before .before .before .before .before .before .before .before .before .before .before .before .before .before .before .before .before .before .before .before .before .before .before .before in
-    let sized = sizes t (c .before .before .before .before .before .before .before .before .before .before .before .before .before .before .before .before .before .before .before .before .before .before .before) in
-    let count-in = c .before .before .before .before .before .before .before .before .before .before .before .before .before .before .before .before .before .before .before .before .before .count-in in
-    let begin = c .before .before .before .before .before .before .before .before .before .before .before .before .before .before .before .before .before .before .before .begin in
-    let part-at = c .before .before .before .before .before .before .before .before .before .before .before .before .before .before .before .before .before .part-at in
-    let invert = c .before .before .before .before .before .before .before .before .before .before .before .before .before .before .before .invert in
-    let loop = c .before .before .before .before .before .before .before .before .before .before .before .loop in
+    let outer = c .before .before .before .before .before .before .before .before .before .before .before in
+    let s = outer .before .before .before .before .before .before .before .before .before .before .before .before .before .before .before in
+    let sized = sizes t (outer .before .before .before .before .before .before .before .before .before .before .before .before) in
+    let count-in = outer .before .before .before .before .before .before .before .before .before .before .count-in in
+    let begin = outer .before .before .before .before .before .before .before .before .begin in
+    let part-at = outer .before .before .before .before .before .before .part-at in
+    let invert = outer .before .before .before .before .invert in
+    let loop = outer .loop in
     let if3 = c .before .before .before .before .before .before .before .if3 in
     let scale-row = c .before .before .before .before .before .scale-row in
     let finish = c .before .before .finish in
@@ -47,13 +51,14 @@ same-length-6 t c =
 
 pub returns-6 : (t : ℕ) → run-lts.Need-returns-6 (cs t) (run-at t) run.Post Inv-loop μ-loop
 returns-6 t c =
-    let s = c .before .before .before .before .before .before .before .before .before .before .before .before .before .before .before .before .before .before .before .before .before .before .before .before .before .before in
-    let sized = sizes t (c .before .before .before .before .before .before .before .before .before .before .before .before .before .before .before .before .before .before .before .before .before .before .before) in
-    let count-in = c .before .before .before .before .before .before .before .before .before .before .before .before .before .before .before .before .before .before .before .before .before .count-in in
-    let begin = c .before .before .before .before .before .before .before .before .before .before .before .before .before .before .before .before .before .before .before .begin in
-    let part-at = c .before .before .before .before .before .before .before .before .before .before .before .before .before .before .before .before .before .part-at in
-    let invert = c .before .before .before .before .before .before .before .before .before .before .before .before .before .before .before .invert in
-    let loop = c .before .before .before .before .before .before .before .before .before .before .before .loop in
+    let outer = c .before .before .before .before .before .before .before .before .before .before .before in
+    let s = outer .before .before .before .before .before .before .before .before .before .before .before .before .before .before .before in
+    let sized = sizes t (outer .before .before .before .before .before .before .before .before .before .before .before .before) in
+    let count-in = outer .before .before .before .before .before .before .before .before .before .before .count-in in
+    let begin = outer .before .before .before .before .before .before .before .before .begin in
+    let part-at = outer .before .before .before .before .before .before .part-at in
+    let invert = outer .before .before .before .before .invert in
+    let loop = outer .loop in
     let if3 = c .before .before .before .before .before .before .before .if3 in
     let scale-row = c .before .before .before .before .before .scale-row in
     let finish = c .before .before .finish in
@@ -62,16 +67,18 @@ returns-6 t c =
 
 pub scale-row-requires-2 : (t : ℕ) → run-lts.Need-scale-row-requires-2 (cs t) (run-at t) run.Post Inv-loop μ-loop
 scale-row-requires-2 t c κs =
-    let sized = sizes t (c .before .before .before .before .before .before .before .before .before .before .before .before .before .before .before .before .before) in
-    let loop = c .before .before .before .before .before .loop in
+    let outer = c .before .before .before .before .before in
+    let sized = sizes t (outer .before .before .before .before .before .before .before .before .before .before .before .before) in
+    let loop = outer .loop in
     let if1 = c .before .before .before .if1 in
     let if3 = c .before .if3 in
     inverse-scales sized (loop .inv) (if3 .left) (omega (arith, if1 .left))
 
 pub finish-requires-2 : (t : ℕ) → run-lts.Need-finish-requires-2 (cs t) (run-at t) run.Post Inv-loop μ-loop
 finish-requires-2 t c κs =
-    let sized = sizes t (c .before .before .before .before .before .before .before .before .before .before .before .before .before .before .before .before .before .before .before .before) in
-    let loop = c .before .before .before .before .before .before .before .before .loop in
+    let outer = c .before .before .before .before .before .before .before .before in
+    let sized = sizes t (outer .before .before .before .before .before .before .before .before .before .before .before .before) in
+    let loop = outer .loop in
     let if1 = c .before .before .before .before .before .before .if1 in
     let if3 = c .before .before .before .before .if3 in
     let scale-row2 = c .before .before .scale-row2 in
@@ -79,8 +86,9 @@ finish-requires-2 t c κs =
 
 pub sub-t29 : (t : ℕ) → run-lts.Need-sub-t29 (cs t) (run-at t) run.Post Inv-loop μ-loop
 sub-t29 t c =
-    let sized = sizes t (c .before .before .before .before .before .before .before .before .before .before .before .before .before .before .before .before .before .before .before .before .before .before .before) in
-    let loop = c .before .before .before .before .before .before .before .before .before .before .before .loop in
+    let outer = c .before .before .before .before .before .before .before .before .before .before .before in
+    let sized = sizes t (outer .before .before .before .before .before .before .before .before .before .before .before .before) in
+    let loop = outer .loop in
     let if1 = c .before .before .before .before .before .before .before .before .before .if1 in
     let if3 = c .before .before .before .before .before .before .before .if3 in
     let scale-row2 = c .before .before .before .before .before .scale-row2 in
@@ -88,13 +96,14 @@ sub-t29 t c =
 
 pub same-length-7 : (t : ℕ) → run-lts.Need-same-length-7 (cs t) (run-at t) run.Post Inv-loop μ-loop
 same-length-7 t c =
-    let s = c .before .before .before .before .before .before .before .before .before .before .before .before .before .before .before .before .before .before .before .before .before .before .before .before .before .before in
-    let sized = sizes t (c .before .before .before .before .before .before .before .before .before .before .before .before .before .before .before .before .before .before .before .before .before .before .before) in
-    let count-in = c .before .before .before .before .before .before .before .before .before .before .before .before .before .before .before .before .before .before .before .before .before .count-in in
-    let begin = c .before .before .before .before .before .before .before .before .before .before .before .before .before .before .before .before .before .before .before .begin in
-    let part-at = c .before .before .before .before .before .before .before .before .before .before .before .before .before .before .before .before .before .part-at in
-    let invert = c .before .before .before .before .before .before .before .before .before .before .before .before .before .before .before .invert in
-    let loop = c .before .before .before .before .before .before .before .before .before .before .before .loop in
+    let outer = c .before .before .before .before .before .before .before .before .before .before .before in
+    let s = outer .before .before .before .before .before .before .before .before .before .before .before .before .before .before .before in
+    let sized = sizes t (outer .before .before .before .before .before .before .before .before .before .before .before .before) in
+    let count-in = outer .before .before .before .before .before .before .before .before .before .before .count-in in
+    let begin = outer .before .before .before .before .before .before .before .before .begin in
+    let part-at = outer .before .before .before .before .before .before .part-at in
+    let invert = outer .before .before .before .before .invert in
+    let loop = outer .loop in
     let if1 = c .before .before .before .before .before .before .before .before .before .if1 in
     let if3 = c .before .before .before .before .before .before .before .if3 in
     let scale-row2 = c .before .before .before .before .before .scale-row2 in
@@ -104,13 +113,14 @@ same-length-7 t c =
 
 pub returns-7 : (t : ℕ) → run-lts.Need-returns-7 (cs t) (run-at t) run.Post Inv-loop μ-loop
 returns-7 t c =
-    let s = c .before .before .before .before .before .before .before .before .before .before .before .before .before .before .before .before .before .before .before .before .before .before .before .before .before .before in
-    let sized = sizes t (c .before .before .before .before .before .before .before .before .before .before .before .before .before .before .before .before .before .before .before .before .before .before .before) in
-    let count-in = c .before .before .before .before .before .before .before .before .before .before .before .before .before .before .before .before .before .before .before .before .before .count-in in
-    let begin = c .before .before .before .before .before .before .before .before .before .before .before .before .before .before .before .before .before .before .before .begin in
-    let part-at = c .before .before .before .before .before .before .before .before .before .before .before .before .before .before .before .before .before .part-at in
-    let invert = c .before .before .before .before .before .before .before .before .before .before .before .before .before .before .before .invert in
-    let loop = c .before .before .before .before .before .before .before .before .before .before .before .loop in
+    let outer = c .before .before .before .before .before .before .before .before .before .before .before in
+    let s = outer .before .before .before .before .before .before .before .before .before .before .before .before .before .before .before in
+    let sized = sizes t (outer .before .before .before .before .before .before .before .before .before .before .before .before) in
+    let count-in = outer .before .before .before .before .before .before .before .before .before .before .count-in in
+    let begin = outer .before .before .before .before .before .before .before .before .begin in
+    let part-at = outer .before .before .before .before .before .before .part-at in
+    let invert = outer .before .before .before .before .invert in
+    let loop = outer .loop in
     let if1 = c .before .before .before .before .before .before .before .before .before .if1 in
     let if3 = c .before .before .before .before .before .before .before .if3 in
     let scale-row2 = c .before .before .before .before .before .scale-row2 in

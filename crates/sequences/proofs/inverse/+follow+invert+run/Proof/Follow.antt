@@ -109,7 +109,8 @@ times-requires-2 t c κs =
     let times = c .before .before .before .before .before .before .before .times in
     let invert = c .before .before .before .before .invert in
     let enum-told = c .before .enum-told in
-    scales (s .pre .1) (size-at .ensures) (top-of .ensures) (omega (arith, if1 .left)) (part-at .ensures) (part-at2 .ensures) (times .ensures) (invert .ensures) (enum-told .given .1)
+    scales (s .pre .1) (size-at .ensures) (top-of .ensures) (omega (arith, if1 .left)) (part-at .ensures) (part-at2 .ensures) (times .ensures) (invert .ensures)
+    (enum-told .given .1)
 
 enum-known-level : (t : ℕ) → follow-lts.Need-enum-known-level (cs t) (follow-at t) follow.Post
 enum-known-level t c = search needs
@@ -118,18 +119,7 @@ enum-told-2 : (t : ℕ) → follow-lts.Need-enum-told-2 (cs t) (follow-at t) fol
 enum-told-2 t c = search needs
 
 same-length-2 : (t : ℕ) → follow-lts.Need-same-length-2 (cs t) (follow-at t) follow.Post
-same-length-2 t c =
-    let s = c .before .before .before .before .before .before .before .before .before .before .before .before .before .before .before .before .before in
-    let size-at = c .before .before .before .before .before .before .before .before .before .before .before .before .before .before .before .before .size-at in
-    let top-of = c .before .before .before .before .before .before .before .before .before .before .before .before .before .before .top-of in
-    let if1 = c .before .before .before .before .before .before .before .before .before .before .before .before .before .if1 in
-    let part-at = c .before .before .before .before .before .before .before .before .before .before .before .before .part-at in
-    let part-at2 = c .before .before .before .before .before .before .before .before .before .before .before .part-at2 in
-    let times = c .before .before .before .before .before .before .before .before .before .times in
-    let invert = c .before .before .before .before .before .before .invert in
-    let enum-told = c .before .before .before .enum-told in
-    let times2 = c .before .times2 in
-    goes-on (s .pre .1) (size-at .ensures) (top-of .ensures) (omega (arith, if1 .left)) (part-at .ensures) (part-at2 .ensures) (times .ensures) (invert .ensures) (enum-told .given .1) (times2 .ensures) .frame .long
+same-length-2 t c = search needs
 
 returns-2 : (t : ℕ) → follow-lts.Need-returns-2 (cs t) (follow-at t) follow.Post
 returns-2 t c =
@@ -143,20 +133,11 @@ returns-2 t c =
     let invert = c .before .before .before .before .before .before .invert in
     let enum-told = c .before .before .before .enum-told in
     let times2 = c .before .times2 in
-    goes-on (s .pre .1) (size-at .ensures) (top-of .ensures) (omega (arith, if1 .left)) (part-at .ensures) (part-at2 .ensures) (times .ensures) (invert .ensures) (enum-told .given .1) (times2 .ensures)
+    goes-on (s .pre .1) (size-at .ensures) (top-of .ensures) (omega (arith, if1 .left)) (part-at .ensures) (part-at2 .ensures) (times .ensures) (invert .ensures)
+    (enum-told .given .1) (times2 .ensures)
 
 same-length-3 : (t : ℕ) → follow-lts.Need-same-length-3 (cs t) (follow-at t) follow.Post
-same-length-3 t c =
-    let s = c .before .before .before .before .before .before .before .before .before .before .before .before .before .before .before in
-    let size-at = c .before .before .before .before .before .before .before .before .before .before .before .before .before .before .size-at in
-    let top-of = c .before .before .before .before .before .before .before .before .before .before .before .before .top-of in
-    let if1 = c .before .before .before .before .before .before .before .before .before .before .before .if1 in
-    let part-at = c .before .before .before .before .before .before .before .before .before .before .part-at in
-    let part-at2 = c .before .before .before .before .before .before .before .before .before .part-at2 in
-    let times = c .before .before .before .before .before .before .before .times in
-    let invert = c .before .before .before .before .invert in
-    let level = c .before .level in
-    shows (s .pre .1) (size-at .ensures) (top-of .ensures) (omega (arith, if1 .left)) (part-at .ensures) (part-at2 .ensures) (times .ensures) (invert .ensures) _ (level .given .1) .frame .long
+same-length-3 t c = search needs
 
 returns-3 : (t : ℕ) → follow-lts.Need-returns-3 (cs t) (follow-at t) follow.Post
 returns-3 t c =
@@ -169,20 +150,11 @@ returns-3 t c =
     let times = c .before .before .before .before .before .before .before .times in
     let invert = c .before .before .before .before .invert in
     let level = c .before .level in
-    shows (s .pre .1) (size-at .ensures) (top-of .ensures) (omega (arith, if1 .left)) (part-at .ensures) (part-at2 .ensures) (times .ensures) (invert .ensures) _ (level .given .1)
+    shows (s .pre .1) (size-at .ensures) (top-of .ensures) (omega (arith, if1 .left)) (part-at .ensures) (part-at2 .ensures) (times .ensures) (invert .ensures) _
+    (level .given .1)
 
 same-length-4 : (t : ℕ) → follow-lts.Need-same-length-4 (cs t) (follow-at t) follow.Post
-same-length-4 t c =
-    let s = c .before .before .before .before .before .before .before .before .before .before .before .before .before .before in
-    let size-at = c .before .before .before .before .before .before .before .before .before .before .before .before .before .size-at in
-    let top-of = c .before .before .before .before .before .before .before .before .before .before .before .top-of in
-    let if1 = c .before .before .before .before .before .before .before .before .before .before .if1 in
-    let part-at = c .before .before .before .before .before .before .before .before .before .part-at in
-    let part-at2 = c .before .before .before .before .before .before .before .before .part-at2 in
-    let times = c .before .before .before .before .before .before .times in
-    let invert = c .before .before .before .invert in
-    let enum-told2 = c .enum-told2 in
-    ends (s .pre .1) (size-at .ensures) (top-of .ensures) (omega (arith, if1 .left)) (part-at .ensures) (part-at2 .ensures) (times .ensures) (invert .ensures) (enum-told2 .given .1) .frame .long
+same-length-4 t c = search needs
 
 returns-4 : (t : ℕ) → follow-lts.Need-returns-4 (cs t) (follow-at t) follow.Post
 returns-4 t c =
@@ -195,7 +167,8 @@ returns-4 t c =
     let times = c .before .before .before .before .before .before .times in
     let invert = c .before .before .before .invert in
     let enum-told2 = c .enum-told2 in
-    ends (s .pre .1) (size-at .ensures) (top-of .ensures) (omega (arith, if1 .left)) (part-at .ensures) (part-at2 .ensures) (times .ensures) (invert .ensures) (enum-told2 .given .1)
+    ends (s .pre .1) (size-at .ensures) (top-of .ensures) (omega (arith, if1 .left)) (part-at .ensures) (part-at2 .ensures) (times .ensures) (invert .ensures)
+    (enum-told2 .given .1)
 
 pub follow-closed : {M : Type 1} (t : ℕ) → follow-lts.Closed (cs t) (follow-at t) follow.Post M
 follow-closed t =

@@ -2,7 +2,8 @@
 use Prim.Native.Nat.{ℕ}
 use native.Mathlib.Omega.{arith}
 use borrow.Author.Needs.{needs}
-use Rattle.sequences.proofs.InvertLaws.{invert-number-asks, inverts-number, invert-level, invert-endless, copies-inverse, gives-inverse, copies-divisor, gives-divisor}
+use Rattle.sequences.proofs.StartLaws.{number-asks, number-done}
+use Rattle.sequences.proofs.InvertLaws.{invert-level, invert-endless, copies-inverse, gives-inverse, copies-divisor, gives-divisor}
 use Rattle.sequences.proofs.inverse.invert.Reads as invert
 use Rattle.sequences.proofs.inverse.run.Reads as run
 use Rattle.sequences.proofs.inverse.+follow+invert+run.Lts-invert as invert-lts
@@ -27,21 +28,17 @@ invert-number-requires : (t : ℕ) → invert-lts.Need-invert-number-requires (c
 invert-number-requires t c κs =
     let s = c .before .before in
     let if1 = c .before .if1 in
-    invert-number-asks (if1 .taken) (s .pre .1)
+    number-asks (if1 .taken) (s .pre .1)
 
 same-length : (t : ℕ) → invert-lts.Need-same-length (cs t) (invert-at t) invert.Post
-same-length t c =
-    let s = c .before .before .before .before in
-    let if1 = c .before .before .before .if1 in
-    let invert-number = c .before .invert-number in
-    inverts-number (if1 .taken) (s .pre .1) (invert-number .ensures) .frame .long
+same-length t c = search needs
 
 returns : (t : ℕ) → invert-lts.Need-returns (cs t) (invert-at t) invert.Post
 returns t c =
     let s = c .before .before .before .before in
     let if1 = c .before .before .before .if1 in
     let invert-number = c .before .invert-number in
-    inverts-number (if1 .taken) (s .pre .1) (invert-number .ensures)
+    number-done (if1 .taken) (s .pre .1) (invert-number .ensures)
 
 run-requires : (t : ℕ) → invert-lts.Need-run-requires (cs t) (invert-at t) invert.Post
 run-requires t c κs =
@@ -89,13 +86,7 @@ enum-told : (t : ℕ) → invert-lts.Need-enum-told (cs t) (invert-at t) invert.
 enum-told t c = search needs
 
 same-length-2 : (t : ℕ) → invert-lts.Need-same-length-2 (cs t) (invert-at t) invert.Post
-same-length-2 t c =
-    let s = c .before .before .before .before .before .before .before .before .before .before .before in
-    let run = c .before .before .before .before .before .before .before .before .run in
-    let at = c .before .before .before .before .before .at in
-    let size-at = c .before .before .size-at in
-    let copy = c .before .copy in
-    gives-inverse (s .pre .1) (run .ensures) (at .given .1) (size-at .ensures) (copy .ensures) .frame .long
+same-length-2 t c = search needs
 
 returns-2 : (t : ℕ) → invert-lts.Need-returns-2 (cs t) (invert-at t) invert.Post
 returns-2 t c =
@@ -107,13 +98,7 @@ returns-2 t c =
     gives-inverse (s .pre .1) (run .ensures) (at .given .1) (size-at .ensures) (copy .ensures)
 
 same-length-3 : (t : ℕ) → invert-lts.Need-same-length-3 (cs t) (invert-at t) invert.Post
-same-length-3 t c =
-    let s = c .before .before .before .before .before .before .before .before .before .before .before in
-    let run = c .before .before .before .before .before .before .before .before .run in
-    let level = c .before .before .before .before .before .level in
-    let size-at2 = c .before .before .size-at2 in
-    let copy2 = c .before .copy2 in
-    gives-divisor (s .pre .1) (run .ensures) (level .given .1) (size-at2 .ensures) (copy2 .ensures) .frame .long
+same-length-3 t c = search needs
 
 returns-3 : (t : ℕ) → invert-lts.Need-returns-3 (cs t) (invert-at t) invert.Post
 returns-3 t c =
@@ -125,11 +110,7 @@ returns-3 t c =
     gives-divisor (s .pre .1) (run .ensures) (level .given .1) (size-at2 .ensures) (copy2 .ensures)
 
 same-length-4 : (t : ℕ) → invert-lts.Need-same-length-4 (cs t) (invert-at t) invert.Post
-same-length-4 t c =
-    let s = c .before .before .before .before .before .before in
-    let run = c .before .before .before .run in
-    let enum-told = c .enum-told in
-    invert-endless (s .pre .1) (run .ensures) (enum-told .given .1) .frame .long
+same-length-4 t c = search needs
 
 returns-4 : (t : ℕ) → invert-lts.Need-returns-4 (cs t) (invert-at t) invert.Post
 returns-4 t c =

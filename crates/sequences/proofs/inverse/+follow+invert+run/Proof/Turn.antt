@@ -10,12 +10,7 @@ use Rattle.sequences.proofs.inverse.+follow+invert+run.Proof.Claims.{ru
 use Rattle.sequences.proofs.inverse.+follow+invert+run.Proof.Loop.{cs, Inv-loop, μ-loop, sizes, slots}
 
 pub same-length-3 : (t : ℕ) → run-lts.Need-same-length-3 (cs t) (run-at t) run.Post Inv-loop μ-loop
-same-length-3 t c =
-    let sized = sizes t (c .before .before .before .before .before .before .before .before .before .before .before .before .before .before .before) in
-    let loop = c .before .before .before .loop in
-    let if1 = c .before .if1 in
-    let if2 = c .if2 in
-    absurd (lt-irrefl 0 (omega (arith, turn-numbers sized (loop .inv) (if1 .taken), if2 .taken)))
+same-length-3 t c = search needs
 
 pub returns-3 : (t : ℕ) → run-lts.Need-returns-3 (cs t) (run-at t) run.Post Inv-loop μ-loop
 returns-3 t c =
@@ -37,8 +32,9 @@ sub-divide-row t c = omega (arith, c .before .before .if1 .taken)
 
 pub divide-row-requires : (t : ℕ) → run-lts.Need-divide-row-requires (cs t) (run-at t) run.Post Inv-loop μ-loop
 divide-row-requires t c κs =
-    let sized = sizes t (c .before .before .before .before .before .before .before .before .before .before .before .before .before .before .before .before .before) in
-    let loop = c .before .before .before .before .before .loop in
+    let outer = c .before .before .before .before .before in
+    let sized = sizes t (outer .before .before .before .before .before .before .before .before .before .before .before .before) in
+    let loop = outer .loop in
     let if1 = c .before .before .before .if1 in
     turn-divides sized (loop .inv) (if1 .taken)
 
@@ -47,41 +43,48 @@ sub-part-at-2 t c = omega (arith, c .before .before .before .before .before .bef
 
 pub part-at-requires-2 : (t : ℕ) → run-lts.Need-part-at-requires-2 (cs t) (run-at t) run.Post Inv-loop μ-loop
 part-at-requires-2 t c κs =
-    let sized = sizes t (c .before .before .before .before .before .before .before .before .before .before .before .before .before .before .before .before .before .before .before .before) in
-    let slots = slots t (c .before .before .before .before .before .before .before .before .before .before .before .before .before .before .before .before .before .before .before .before) in
-    let loop = c .before .before .before .before .before .before .before .before .loop in
+    let outer = c .before .before .before .before .before .before .before .before in
+    let sized = sizes t (outer .before .before .before .before .before .before .before .before .before .before .before .before) in
+    let slots = slots t (outer .before .before .before .before .before .before .before .before .before .before .before .before) in
+    let loop = outer .loop in
     let if1 = c .before .before .before .before .before .before .if1 in
     omega (arith, turn-place sized (loop .inv) (if1 .taken), slots)
 
 pub sub-lose-product : (t : ℕ) → run-lts.Need-sub-lose-product (cs t) (run-at t) run.Post Inv-loop μ-loop
 sub-lose-product t c =
-    let sized = sizes t (c .before .before .before .before .before .before .before .before .before .before .before .before .before .before .before .before .before .before .before .before .before .before .before) in
-    let loop = c .before .before .before .before .before .before .before .before .before .before .before .loop in
+    let outer = c .before .before .before .before .before .before .before .before .before .before .before in
+    let sized = sizes t (outer .before .before .before .before .before .before .before .before .before .before .before .before) in
+    let loop = outer .loop in
     let if1 = c .before .before .before .before .before .before .before .before .before .if1 in
     omega (arith, turn-numbers sized (loop .inv) (if1 .taken))
 
 pub add-lose-product : (t : ℕ) → run-lts.Need-add-lose-product (cs t) (run-at t) run.Post Inv-loop μ-loop
 add-lose-product t c =
-    let sized = sizes t (c .before .before .before .before .before .before .before .before .before .before .before .before .before .before .before .before .before .before .before .before .before .before .before) in
-    let slots = slots t (c .before .before .before .before .before .before .before .before .before .before .before .before .before .before .before .before .before .before .before .before .before .before .before) in
-    let loop = c .before .before .before .before .before .before .before .before .before .before .before .loop in
+    let outer = c .before .before .before .before .before .before .before .before .before .before .before in
+    let sized = sizes t (outer .before .before .before .before .before .before .before .before .before .before .before .before) in
+    let slots = slots t (outer .before .before .before .before .before .before .before .before .before .before .before .before) in
+    let loop = outer .loop in
     let if1 = c .before .before .before .before .before .before .before .before .before .if1 in
     record { fits = omega (arith, turn-numbers sized (loop .inv) (if1 .taken), slots) }
 
 pub add-lose-product-2 : (t : ℕ) → run-lts.Need-add-lose-product-2 (cs t) (run-at t) run.Post Inv-loop μ-loop
-add-lose-product-2 t c = record { fits = omega (arith, slots t (c .before .before .before .before .before .before .before .before .before .before .before .before .before .before .before .before .before .before .before .before .before .before .before)) }
+add-lose-product-2 t c =
+    let outer = c .before .before .before .before .before .before .before .before .before .before .before in
+    record { fits = omega (arith, slots t (outer .before .before .before .before .before .before .before .before .before .before .before .before)) }
 
 pub sub-lose-product-2 : (t : ℕ) → run-lts.Need-sub-lose-product-2 (cs t) (run-at t) run.Post Inv-loop μ-loop
 sub-lose-product-2 t c =
-    let sized = sizes t (c .before .before .before .before .before .before .before .before .before .before .before .before .before .before .before .before .before .before .before .before .before .before .before .before) in
-    let loop = c .before .before .before .before .before .before .before .before .before .before .before .before .loop in
+    let outer = c .before .before .before .before .before .before .before .before .before .before .before .before in
+    let sized = sizes t (outer .before .before .before .before .before .before .before .before .before .before .before .before) in
+    let loop = outer .loop in
     let if1 = c .before .before .before .before .before .before .before .before .before .before .if1 in
     omega (arith, turn-numbers sized (loop .inv) (if1 .taken))
 
 pub lose-product-requires : (t : ℕ) → run-lts.Need-lose-product-requires (cs t) (run-at t) run.Post Inv-loop μ-loop
 lose-product-requires t c κs =
-    let sized = sizes t (c .before .before .before .before .before .before .before .before .before .before .before .before .before .before .before .before .before .before .before .before .before .before .before .before .before) in
-    let loop = c .before .before .before .before .before .before .before .before .before .before .before .before .before .loop in
+    let outer = c .before .before .before .before .before .before .before .before .before .before .before .before .before in
+    let sized = sizes t (outer .before .before .before .before .before .before .before .before .before .before .before .before) in
+    let loop = outer .loop in
     let if1 = c .before .before .before .before .before .before .before .before .before .before .before .if1 in
     let divide-row = c .before .before .before .before .before .before .before .divide-row in
     let part-at2 = c .before .before .before .before .part-at2 in
@@ -92,9 +95,10 @@ sub-follow t c = omega (arith, c .before .before .before .before .before .before
 
 pub follow-requires : (t : ℕ) → run-lts.Need-follow-requires (cs t) (run-at t) run.Post Inv-loop μ-loop
 follow-requires t c κs =
-    let s = c .before .before .before .before .before .before .before .before .before .before .before .before .before .before .before .before .before .before .before .before .before .before .before .before .before .before .before .before .before .before .before .before in
-    let sized = sizes t (c .before .before .before .before .before .before .before .before .before .before .before .before .before .before .before .before .before .before .before .before .before .before .before .before .before .before .before .before .before) in
-    let loop = c .before .before .before .before .before .before .before .before .before .before .before .before .before .before .before .before .before .loop in
+    let outer = c .before .before .before .before .before .before .before .before .before .before .before .before .before .before .before .before .before in
+    let s = outer .before .before .before .before .before .before .before .before .before .before .before .before .before .before .before in
+    let sized = sizes t (outer .before .before .before .before .before .before .before .before .before .before .before .before) in
+    let loop = outer .loop in
     let if1 = c .before .before .before .before .before .before .before .before .before .before .before .before .before .before .before .if1 in
     let divide-row = c .before .before .before .before .before .before .before .before .before .before .before .divide-row in
     let part-at2 = c .before .before .before .before .before .before .before .before .part-at2 in
@@ -106,15 +110,17 @@ enum-known-c t c = search needs
 
 pub loop-less : (t : ℕ) → run-lts.Need-loop-less (cs t) (run-at t) run.Post Inv-loop μ-loop
 loop-less t c =
-    let sized = sizes t (c .before .before .before .before .before .before .before .before .before .before .before .before .before .before .before .before .before .before .before .before .before .before .before .before .before .before .before .before .before .before .before .before .before .before) in
-    let loop = c .before .before .before .before .before .before .before .before .before .before .before .before .before .before .before .before .before .before .before .before .before .before .loop in
+    let outer = c .before .before .before .before .before .before .before .before .before .before .before .before .before .before .before .before .before .before .before .before .before .before in
+    let sized = sizes t (outer .before .before .before .before .before .before .before .before .before .before .before .before) in
+    let loop = outer .loop in
     let if1 = c .before .before .before .before .before .before .before .before .before .before .before .before .before .before .before .before .before .before .before .before .if1 in
     omega (arith, turn-numbers sized (loop .inv) (if1 .taken))
 
 pub loop-again : (t : ℕ) → run-lts.Need-loop-again (cs t) (run-at t) run.Post Inv-loop μ-loop
 loop-again t c =
-    let sized = sizes t (c .before .before .before .before .before .before .before .before .before .before .before .before .before .before .before .before .before .before .before .before .before .before .before .before .before .before .before .before .before .before .before .before .before .before) in
-    let loop = c .before .before .before .before .before .before .before .before .before .before .before .before .before .before .before .before .before .before .before .before .before .before .loop in
+    let outer = c .before .before .before .before .before .before .before .before .before .before .before .before .before .before .before .before .before .before .before .before .before .before in
+    let sized = sizes t (outer .before .before .before .before .before .before .before .before .before .before .before .before) in
+    let loop = outer .loop in
     let if1 = c .before .before .before .before .before .before .before .before .before .before .before .before .before .before .before .before .before .before .before .before .if1 in
     let divide-row = c .before .before .before .before .before .before .before .before .before .before .before .before .before .before .before .before .divide-row in
     let part-at2 = c .before .before .before .before .before .before .before .before .before .before .before .before .before .part-at2 in
@@ -128,13 +134,14 @@ enum-known-level-2 t c = search needs
 
 pub same-length-4 : (t : ℕ) → run-lts.Need-same-length-4 (cs t) (run-at t) run.Post Inv-loop μ-loop
 same-length-4 t c =
-    let s = c .before .before .before .before .before .before .before .before .before .before .before .before .before .before .before .before .before .before .before .before .before .before .before .before .before .before .before .before .before .before .before .before .before .before .before .before .before in
-    let sized = sizes t (c .before .before .before .before .before .before .before .before .before .before .before .before .before .before .before .before .before .before .before .before .before .before .before .before .before .before .before .before .before .before .before .before .before .before) in
-    let count-in = c .before .before .before .before .before .before .before .before .before .before .before .before .before .before .before .before .before .before .before .before .before .before .before .before .before .before .before .before .before .before .before .before .count-in in
-    let begin = c .before .before .before .before .before .before .before .before .before .before .before .before .before .before .before .before .before .before .before .before .before .before .before .before .before .before .before .before .before .before .begin in
-    let part-at = c .before .before .before .before .before .before .before .before .before .before .before .before .before .before .before .before .before .before .before .before .before .before .before .before .before .before .before .before .part-at in
-    let invert = c .before .before .before .before .before .before .before .before .before .before .before .before .before .before .before .before .before .before .before .before .before .before .before .before .before .before .invert in
-    let loop = c .before .before .before .before .before .before .before .before .before .before .before .before .before .before .before .before .before .before .before .before .before .before .loop in
+    let outer = c .before .before .before .before .before .before .before .before .before .before .before .before .before .before .before .before .before .before .before .before .before .before in
+    let s = outer .before .before .before .before .before .before .before .before .before .before .before .before .before .before .before in
+    let sized = sizes t (outer .before .before .before .before .before .before .before .before .before .before .before .before) in
+    let count-in = outer .before .before .before .before .before .before .before .before .before .before .count-in in
+    let begin = outer .before .before .before .before .before .before .before .before .begin in
+    let part-at = outer .before .before .before .before .before .before .part-at in
+    let invert = outer .before .before .before .before .invert in
+    let loop = outer .loop in
     let if1 = c .before .before .before .before .before .before .before .before .before .before .before .before .before .before .before .before .before .before .before .before .if1 in
     let divide-row = c .before .before .before .before .before .before .before .before .before .before .before .before .before .before .before .before .divide-row in
     let part-at2 = c .before .before .before .before .before .before .before .before .before .before .before .before .before .part-at2 in
@@ -142,17 +149,19 @@ same-length-4 t c =
     let follow = c .before .before .before .before .follow in
     let level2 = c .before .level2 in
     run-ends (s .pre .1) sized (count-in .ensures) (begin .ensures) (part-at .ensures) (invert .result) (invert .ensures) _
-    (turns-to sized (loop .inv) (if1 .taken) (divide-row .ensures) (part-at2 .ensures) (lose-product .ensures) (follow .result) (follow .ensures) _ _ (level2 .given .1)) .frame .long
+    (turns-to sized (loop .inv) (if1 .taken) (divide-row .ensures) (part-at2 .ensures) (lose-product .ensures) (follow .result) (follow .ensures) _ _ (level2 .given .1))
+    .frame .long
 
 pub returns-4 : (t : ℕ) → run-lts.Need-returns-4 (cs t) (run-at t) run.Post Inv-loop μ-loop
 returns-4 t c =
-    let s = c .before .before .before .before .before .before .before .before .before .before .before .before .before .before .before .before .before .before .before .before .before .before .before .before .before .before .before .before .before .before .before .before .before .before .before .before .before in
-    let sized = sizes t (c .before .before .before .before .before .before .before .before .before .before .before .before .before .before .before .before .before .before .before .before .before .before .before .before .before .before .before .before .before .before .before .before .before .before) in
-    let count-in = c .before .before .before .before .before .before .before .before .before .before .before .before .before .before .before .before .before .before .before .before .before .before .before .before .before .before .before .before .before .before .before .before .count-in in
-    let begin = c .before .before .before .before .before .before .before .before .before .before .before .before .before .before .before .before .before .before .before .before .before .before .before .before .before .before .before .before .before .before .begin in
-    let part-at = c .before .before .before .before .before .before .before .before .before .before .before .before .before .before .before .before .before .before .before .before .before .before .before .before .before .before .before .before .part-at in
-    let invert = c .before .before .before .before .before .before .before .before .before .before .before .before .before .before .before .before .before .before .before .before .before .before .before .before .before .before .invert in
-    let loop = c .before .before .before .before .before .before .before .before .before .before .before .before .before .before .before .before .before .before .before .before .before .before .loop in
+    let outer = c .before .before .before .before .before .before .before .before .before .before .before .before .before .before .before .before .before .before .before .before .before .before in
+    let s = outer .before .before .before .before .before .before .before .before .before .before .before .before .before .before .before in
+    let sized = sizes t (outer .before .before .before .before .before .before .before .before .before .before .before .before) in
+    let count-in = outer .before .before .before .before .before .before .before .before .before .before .count-in in
+    let begin = outer .before .before .before .before .before .before .before .before .begin in
+    let part-at = outer .before .before .before .before .before .before .part-at in
+    let invert = outer .before .before .before .before .invert in
+    let loop = outer .loop in
     let if1 = c .before .before .before .before .before .before .before .before .before .before .before .before .before .before .before .before .before .before .before .before .if1 in
     let divide-row = c .before .before .before .before .before .before .before .before .before .before .before .before .before .before .before .before .divide-row in
     let part-at2 = c .before .before .before .before .before .before .before .before .before .before .before .before .before .part-at2 in
@@ -167,24 +176,28 @@ enum-told-3 t c = search needs
 
 pub same-length-5 : (t : ℕ) → run-lts.Need-same-length-5 (cs t) (run-at t) run.Post Inv-loop μ-loop
 same-length-5 t c =
-    let sized = sizes t (c .before .before .before .before .before .before .before .before .before .before .before .before .before .before .before .before .before .before .before .before .before .before .before .before .before .before .before .before .before .before .before .before .before) in
-    let loop = c .before .before .before .before .before .before .before .before .before .before .before .before .before .before .before .before .before .before .before .before .before .loop in
+    let outer = c .before .before .before .before .before .before .before .before .before .before .before .before .before .before .before .before .before .before .before .before .before in
+    let sized = sizes t (outer .before .before .before .before .before .before .before .before .before .before .before .before) in
+    let loop = outer .loop in
     let if1 = c .before .before .before .before .before .before .before .before .before .before .before .before .before .before .before .before .before .before .before .if1 in
     let divide-row = c .before .before .before .before .before .before .before .before .before .before .before .before .before .before .before .divide-row in
     let part-at2 = c .before .before .before .before .before .before .before .before .before .before .before .before .part-at2 in
     let lose-product = c .before .before .before .before .before .before .before .lose-product in
     let follow = c .before .before .before .follow in
     let enum-told3 = c .enum-told3 in
-    absurd (turns-out sized (loop .inv) (if1 .taken) (divide-row .ensures) (part-at2 .ensures) (lose-product .ensures) (follow .result) (follow .ensures) (enum-told3 .given .1))
+    absurd (turns-out sized (loop .inv) (if1 .taken) (divide-row .ensures) (part-at2 .ensures) (lose-product .ensures) (follow .result) (follow .ensures)
+    (enum-told3 .given .1))
 
 pub returns-5 : (t : ℕ) → run-lts.Need-returns-5 (cs t) (run-at t) run.Post Inv-loop μ-loop
 returns-5 t c =
-    let sized = sizes t (c .before .before .before .before .before .before .before .before .before .before .before .before .before .before .before .before .before .before .before .before .before .before .before .before .before .before .before .before .before .before .before .before .before) in
-    let loop = c .before .before .before .before .before .before .before .before .before .before .before .before .before .before .before .before .before .before .before .before .before .loop in
+    let outer = c .before .before .before .before .before .before .before .before .before .before .before .before .before .before .before .before .before .before .before .before .before in
+    let sized = sizes t (outer .before .before .before .before .before .before .before .before .before .before .before .before) in
+    let loop = outer .loop in
     let if1 = c .before .before .before .before .before .before .before .before .before .before .before .before .before .before .before .before .before .before .before .if1 in
     let divide-row = c .before .before .before .before .before .before .before .before .before .before .before .before .before .before .before .divide-row in
     let part-at2 = c .before .before .before .before .before .before .before .before .before .before .before .before .part-at2 in
     let lose-product = c .before .before .before .before .before .before .before .lose-product in
     let follow = c .before .before .before .follow in
     let enum-told3 = c .enum-told3 in
-    absurd (turns-out sized (loop .inv) (if1 .taken) (divide-row .ensures) (part-at2 .ensures) (lose-product .ensures) (follow .result) (follow .ensures) (enum-told3 .given .1))
+    absurd (turns-out sized (loop .inv) (if1 .taken) (divide-row .ensures) (part-at2 .ensures) (lose-product .ensures) (follow .result) (follow .ensures)
+    (enum-told3 .given .1))
