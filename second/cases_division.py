@@ -173,12 +173,8 @@ def division_of_largest():
         for degree_a, degree_b in [(2, 1), (16, 8), (255, 128)]:
             yield of_values(rng, Tower(p, ()), (p - 1,) * (degree_a + 1),
                             (p - 1,) * degree_b + (1,))
-        for d in (2, 3, 64):
-            tower, element = Tower(p, ((p - 1,) * d + (1,),)), (p - 1,) * d
-            yield of_values(rng, tower, (element,) * 3, (element, (1,)))
-        tower = Tower(p, ((p - 1, p - 1, 1), ((p - 1, p - 1),) * 3 + ((1,),)))
-        element = ((p - 1, p - 1),) * 3
-        yield of_values(rng, tower, (element,) * 3, (element, ((1,),)))
+        for tower, element, one in samples.largest_residues(p):
+            yield of_values(rng, tower, (element,) * 3, (element, one))
 
 
 def division_towers():

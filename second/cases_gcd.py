@@ -210,12 +210,8 @@ def gcd_of_largest():
         for m, n in [(6, 4), (12, 18), (240, 160)]:
             f, g = ((p - 1, *(0,) * (d - 1), 1) for d in (m, n))
             yield of_values(rng, Tower(p, ()), f, g)
-        for d in (2, 3, 64):
-            tower, element = Tower(p, ((p - 1,) * d + (1,),)), (p - 1,) * d
-            yield of_values(rng, tower, (element,) * 3, (element, (1,)))
-        tower = Tower(p, ((p - 1, p - 1, 1), ((p - 1, p - 1),) * 3 + ((1,),)))
-        element = ((p - 1, p - 1),) * 3
-        yield of_values(rng, tower, (element,) * 3, (element, ((1,),)))
+        for tower, element, one in samples.largest_residues(p):
+            yield of_values(rng, tower, (element,) * 3, (element, one))
 
 
 def gcd_longest():

@@ -132,12 +132,8 @@ def product_of_largest():
         for degree_a, degree_b in [(1, 1), (7, 8), (127, 128)]:
             yield of_values(rng, tower, (p - 1,) * (degree_a + 1),
                             (p - 1,) * (degree_b + 1))
-        for d in (2, 3, 64):
-            tower, element = Tower(p, ((p - 1,) * d + (1,),)), (p - 1,) * d
+        for tower, element, _ in samples.largest_residues(p):
             yield of_values(rng, tower, (element,) * 2, (element,) * 2)
-        tower = Tower(p, ((p - 1, p - 1, 1), ((p - 1, p - 1),) * 3 + ((1,),)))
-        element = ((p - 1, p - 1),) * 3
-        yield of_values(rng, tower, (element,) * 2, (element,) * 2)
 
 
 def product_powers():

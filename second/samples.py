@@ -177,3 +177,11 @@ LARGER_NOT_FIELDS = [
     Tower(3, ((1, 2, 0, 1), (Z, (1,), (1,)))),
     Tower(2, ((1, 1, 1), ((), (1,), (1,)), ((Z,), (), ((1,),)))),
 ]
+
+
+def largest_residues(p):
+    """Towers of one and two levels and an element of each, every residue p - 1; and 1."""
+    for d in (2, 3, 64):
+        yield Tower(p, ((p - 1,) * d + (1,),)), (p - 1,) * d, (1,)
+    row = ((p - 1, p - 1),) * 3
+    yield Tower(p, ((p - 1, p - 1, 1), row + ((1,),))), row, ((1,),)
