@@ -1,5 +1,5 @@
 -- The mathematical part of document 01's figures C5 to C10 and C12 and of the calculator's case, computed on the definitions: one table under one statement.
--- (The calls themselves, with their words and refusals, are held against the figures in kernel/specs/Figures.antt.)
+-- (The calls themselves, with their words and refusals, are held against the figures in demands/specs/Figures.antt.)
 use mathlib.Core.Path.{_≡_, refl, ap}
 use mathlib.Core.Logic.{inl, inr}
 use mathlib.Core.List.{[], _∷_}

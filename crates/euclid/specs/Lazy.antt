@@ -6,6 +6,7 @@
 -- Linear R C                    == what is carried may be scaled later;  nothing-linear
 -- lazy k f g                    == the sequence of at most k remainders on unit times f and unit times g;  next == the pair (f, g) becomes (g, next)
 -- lazy-null, lazy-next, lazy-shown, lazy-never-long == the ways in which a turn can go;  next-led == the next is again kept with its inverse
+-- lazy-constant                 == where g is a constant, the answer is 1
 -- lazy-swap                     == where f has the lower degree, the first turn exchanges the two
 -- lazy-fuel                     == how many remainders are allowed changes no answer
 -- gcd-lazy                      == the GCD's sequence is this one
@@ -168,6 +169,15 @@ module _ (L : Level) (C : Carry (L .ring .Car)) where
   unfolding lazy
   lazy-null k f g z =
       seq-null L C k _ _ _ _ _ _ (strip-null (L .zero-test) (g .degree) _ (λ j. rest-scaled f g j ∙ ap (λ x. f .unit ⊗ x) (z j) ∙ ⊗-zero R _))
+
+  -- so it is where the divisor is a constant, and the answer has no coefficient under its leading 1
+  pub lazy-constant : (k : ℕ) (f g : Led Car X) → g .degree ≡ 0 → lazy (suc k) f g ≡ done (ended 0 tt (times (g .unit) (g .carried)))
+  lazy-constant k f g h =
+      lazy-null k f g (λ j. coef-below 𝟘 (g .degree) (rest R f g) j (omega (arith, h))) ∙ ap done (go (g .degree) _ h)
+    where
+      go : (n : ℕ) (v : Vec Car n) → n ≡ 0 → ended n v (times (g .unit) (g .carried)) ≡ ended 0 tt (times (g .unit) (g .carried))
+      go zero v e = refl
+      go (suc n) v e = absurd (omega (arith, e))
 
   -- or it has the leading coefficient c
   module _ (f g : Led Car X) (uf : UnitLed R f) (e : ℕ) (u : Vec Car e) (c : Car) (st : Stripped 𝟘 (g .degree) (rest R f g) (lead e u c)) where

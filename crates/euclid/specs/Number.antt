@@ -5,19 +5,20 @@
 -- row-ok              == the last remainder has exactly the common divisors, and is its multiplier times c
 -- inverse₀-ok         == the inverse, or a factor as demand 3 has it
 -- done₀, shown₀       == however a program finds them: the inverse is the answer where nothing above 1 divides both, and else the greatest common divisor
-use mathlib.Core.Path.{_≡_, refl, ap, ap₂, sym, _∙_}
+-- inverse₀-times      == the inverse of c is that of u c times u, u a unit; and both show the same
+use mathlib.Core.Path.{_≡_, refl, ap, ap₂, sym, _∙_, subst}
 use mathlib.Core.Bool.{Bool, true, false, not}
 use mathlib.Core.Logic.{_↔_, _⊎_, inl, inr}
 use Prim.Native.Nat.{ℕ, zero, suc, _*_, _/_, _%_, _≤_, _<_, _∣_}
 use native.Mathlib.Omega.{arith}
-use native.Mathlib.Nat.{mod-lt, mod-eq-of-lt, div-add-mod', dvd-mod-iff, dvd-refl, dvd-zero, dvd-antisymm, le-of-dvd, pos-of-dvd-of-pos, eq-zero-or-pos}
+use native.Mathlib.Nat.{mod-lt, mod-eq-of-lt, div-add-mod', dvd-mod-iff, dvd-mul-left-of-dvd, dvd-refl, dvd-zero, dvd-antisymm, le-of-dvd, pos-of-dvd-of-pos, eq-zero-or-pos}
 use lib.Dec.{T, ltb, ltb→lt, nltb→le}
 use Rattle.algebra.specs.Test.{branch}
 use Rattle.algebra.specs.Ring.{CRing, zero-⊗, one-⊗}
 use Rattle.algebra.specs.Solve.{_:+_, _:-_, _:*_, _≐_, solve₃, solve₄}
 use Rattle.algebra.specs.Zmod.{Zmod, toZ, residue-path, toZ-⊕, toZ-⊗, toZ-own, toZ-p}
 use Rattle.algebra.specs.Divisor.{iff-trans, inv-unique}
-use Rattle.euclid.specs.Answer.{Answer, done, shown, Holds}
+use Rattle.euclid.specs.Answer.{Answer, done, shown, map, Holds}
 use Rattle.euclid.specs.Level.{Factor₀}
 
 module _ (p : ℕ) (pos : 0 < p) where
@@ -144,3 +145,37 @@ module _ (p : ℕ) (pos : 0 < p) where
 
       go : (t : ℕ × Car) → Row c p (c .0) t → Holds (Factor₀ p) (λ i. i ⊗ c ≡ 𝟙) (answer t) → answer t ≡ done u
       go t r k = two t r (ltb 1 (t .0)) (ltb→lt 1 (t .0)) k
+
+  -- ---- times a unit u
+  -- a common divisor of p and c divides v c
+  common-times : (v c : Car) (k : ℕ) → k ∣ p → k ∣ c .0 → k ∣ (v ⊗ c) .0
+  common-times v c k h d = dvd-mod-iff k {m = v .0 * c .0} h .1 (dvd-mul-left-of-dvd k d (v .0))
+
+  module _ (u back c : Car) (unit : u ⊗ back ≡ 𝟙) (nz : ¬ (c ≡ 𝟘)) where
+    -- back u c is c
+    back-again : back ⊗ (u ⊗ c) ≡ c
+    back-again = solve₃ Z back u c (λ b u c. b :* (u :* c) ≐ u :* b :* c) refl ∙ ap (λ x. x ⊗ c) unit ∙ one-⊗ Z c
+
+    -- so u c and c have the same divisors in common with p
+    same-common : (k : ℕ) → ((k ∣ p) × (k ∣ (u ⊗ c) .0)) ↔ ((k ∣ p) × (k ∣ c .0))
+    same-common k = (
+      λ d. (d .0, subst (λ x. k ∣ x .0) back-again (common-times back (u ⊗ c) k (d .0) (d .1))),
+      λ d. (d .0, common-times u c k (d .0) (d .1)),
+    )
+
+    pub inverse₀-times : inverse₀ c ≡ map (λ j. j ⊗ u) (inverse₀ (u ⊗ c))
+    unfolding inverse₀
+    inverse₀-times = go (row (u ⊗ c)) (row-ok (u ⊗ c))
+      where
+        two : (t : ℕ × Car) → Row (u ⊗ c) p ((u ⊗ c) .0) t → (b : Bool) → (T b → 1 < t .0) → (T (not b) → t .0 ≤ 1)
+            → inverse₀ c ≡ map (λ j. j ⊗ u) (branch {A = Answer ℕ Car} b (λ _. shown (t .0)) (λ _. done (t .1)))
+        two t r true y n = shown₀ c (t .0) (λ k. iff-trans (r .greatest k) (same-common k)) (y tt)
+        two t r false y n =
+            let small : t .0 ≤ 1 = n tt in
+            let some : 0 < t .0 = pos-of-dvd-of-pos (r .greatest (t .0) .0 (dvd-refl (t .0)) .0) pos in
+            let one : t .0 ≡ 1 = omega arith in
+            done₀ c (t .1 ⊗ u) (λ k d e. omega (arith, small, le-of-dvd some (r .greatest k .1 (same-common k .1 (d, e)))))
+            (Z .⊗-assoc (t .1) u c ∙ sym (r .combined) ∙ ap (toZ p pos) one) nz
+
+        go : (t : ℕ × Car) → Row (u ⊗ c) p ((u ⊗ c) .0) t → inverse₀ c ≡ map (λ j. j ⊗ u) (answer t)
+        go t r = two t r (ltb 1 (t .0)) (ltb→lt 1 (t .0)) (nltb→le 1 (t .0))

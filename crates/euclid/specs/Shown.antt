@@ -1,7 +1,8 @@
 -- The words of a shown factor: "A shown factor at level j lies in the first S_j words of the factor buffer, written as an element of R_j (level 0: one word)".
 --
 -- factorElement   == a monic polynomial of a degree below d as an element of the level above
--- shownWords n t f == the words of what is shown at level n of the tower t;  shown-long == they are S_j, j its level;  shown-fits == and not above S_n
+-- shownWords n t f == the words of what is shown at level n of the tower t;  shown-long == they are S_j, j its level;  shown-low == which is not above n;
+--                    shown-fits == nor are they above S_n
 -- ValueHeld       == words hold a factor of the tower: the number at level 0, above it a polynomial in form;  shown-held == so do those of what is rightly shown
 use Prim.Native.Nat.{ℕ, zero, suc, _*_, _<_, _≤_}
 use native.Mathlib.Nat.{mul-le-mul-right}
@@ -38,6 +39,12 @@ module _ (p : ℕ) (p-pos : 0 < p) (d : List ℕ) where
   shown-long zero t h = sym (size-zero d)
   shown-long (suc n) t (inl f) = shown-long n (t .0) f
   shown-long (suc n) t (inr f) = write-long p d (suc n) (factorElement n (t .0) f)
+
+  -- what is shown at level n has a level of at most n
+  pub shown-low : (n : ℕ) (f : Shown p d n) → level-of p d n f ≤ n
+  shown-low zero h = omega arith
+  shown-low (suc n) (inl f) = omega (arith, shown-low n f)
+  shown-low (suc n) (inr f) = omega arith
 
   -- where degrees are at least 1 the words of a level are not more than those of a higher one
   pub shown-fits : (n : ℕ) → Ones p p-pos d n → (f : Shown p d n) → size d (level-of p d n f) ≤ size d n

@@ -1,6 +1,9 @@
 -- Laws of a turn's end: the remainder's leading coefficient times the dividend's inverse is inverted.
 --
+-- Before, now                  == what stood before;  Leading, leading, at-stands == the remainder's leading coefficient, at its place;  answer == its inverse's
+-- followed                     == what a turn's end leaves, by the remainder's shape
 -- searches, follows-zero       == the search for the leading coefficient; the remainder is zero
+-- found, some                  == what was found, in the sizes of the tower
 -- follows-fit                  == the places that the code computes
 -- multiplies, inverts, scales  == what the three steps ask for
 -- goes-on, shows, ends         == what they leave
@@ -51,18 +54,18 @@ module _ {i : ℕ} {d z : List ℕ} {p : ℕ} {e : List ℤ} {e-in : Bool} {ea r
   follow-top = omega (arith, r .behind, r .row-below, r .room, free-ends)
 
   -- what stood before
-  record Before : Type 0 where
-    p-pos : 0 < p
-    t : Tower p d i
-    f : ℕ → El p d i
-    u : El p d i
-    back : El p d i
-    tower : TowerStands p p-pos d i t (pick e-in w₀ e) ea
-    rest : Elements p d i n f w₀ row
-    inverse : Stands p d i u w₀ unit
-    is-unit : ring p p-pos d i t ._⊗_ u back ≡ ring p p-pos d i t .𝟙
+  pub record Before : Type 0 where
+    pub p-pos : 0 < p
+    pub t : Tower p d i
+    pub f : ℕ → El p d i
+    pub u : El p d i
+    pub back : El p d i
+    pub tower : TowerStands p p-pos d i t (pick e-in w₀ e) ea
+    pub rest : Elements p d i n f w₀ row
+    pub inverse : Stands p d i u w₀ unit
+    pub is-unit : ring p p-pos d i t ._⊗_ u back ≡ ring p p-pos d i t .𝟙
 
-  abbrev now : Before
+  abbrev pub now : Before
   now = record { p-pos = r .p-pos; t = r .t; f = r .f; u = r .u; back = r .back; tower = r .tower; rest = r .rest; inverse = r .inverse; is-unit = r .is-unit }
 
   module _ {k : ℕ} (told : Top i n s w₀ (row - 1 + 1) k) where
@@ -91,16 +94,17 @@ module _ {i : ℕ} {d z : List ℕ} {p : ℕ} {e : List ℤ} {e-in : Bool} {ea r
 
     module _ (some : ¬ (k ≡ 0)) (few : k ≤ n) where
       -- a leading coefficient, at its place
-      record Leading (b : Before) : Type 0 where
-        m : ℕ
-        l : Vec (El p d i) m
-        c : El p d i
-        shape : strip (isZero p d i) n (trunc n (b .f)) ≡ lead m l c
-        counts : k ≡ suc m
-        here : b .f (k - 1) ≡ c
-        not-zero : ¬ (ring p (b .p-pos) d i (b .t) ._⊗_ (b .u) c ≡ group p (b .p-pos) d i .𝟘)
+      pub record Leading (b : Before) : Type 0 where
+        pub m : ℕ
+        pub l : Vec (El p d i) m
+        pub c : El p d i
+        pub shape : strip (isZero p d i) n (trunc n (b .f)) ≡ lead m l c
+        pub counts : k ≡ suc m
+        pub here : b .f (k - 1) ≡ c
+        pub some-c : ¬ (c ≡ group p (b .p-pos) d i .𝟘)
+        pub not-zero : ¬ (ring p (b .p-pos) d i (b .t) ._⊗_ (b .u) c ≡ group p (b .p-pos) d i .𝟘)
 
-      leading : (b : Before) → Leading b
+      pub leading : (b : Before) → Leading b
       leading b = go (strip (isZero p d i) n (trunc n (b .f))) refl (strip-ok (zero-test p (b .p-pos) d i) n (trunc n (b .f))) (counted b)
         where
           go : (y : Shape (El p d i)) → strip (isZero p d i) n (trunc n (b .f)) ≡ y → Stripped (group p (b .p-pos) d i .𝟘) n (trunc n (b .f)) y → count y ≡ k → Leading b
@@ -115,12 +119,23 @@ module _ {i : ℕ} {d z : List ℕ} {p : ℕ} {e : List ℤ} {e-in : Bool} {ea r
                 shape = ey;
                 counts = sym q;
                 here = ap (b .f) last ∙ sym (trunc-at O n (b .f) m (st .0)) ∙ st .2 m ∙ topped-top O m l c;
+                some-c = st .1;
                 not-zero = unit-times (ring p (b .p-pos) d i (b .t)) (led 0 tt (b .back) (b .u) (b .u)) (b .is-unit) c (st .1);
               }
 
       -- the inverse of its product with u
-      abbrev answer : Before → Answer (Shown p d i) (El p d i)
+      abbrev pub answer : Before → Answer (Shown p d i) (El p d i)
       answer b = inv p (b .p-pos) d i (b .t) (ring p (b .p-pos) d i (b .t) ._⊗_ (b .u) (leading b .c))
+
+      -- by the remainder's shape
+      pub followed : {v : List ℤ} (o : Turn) → ((b : Before) → Follows p (b .p-pos) d i (b .t) (b .u) (leading b .m) (answer b) o v free unit)
+          → Besides free unit s top (inverseWork d i) w₀ v → FollowDone i d p e e-in ea row n unit w₀ v top o
+      followed {v} o h f = record {
+        frame = f;
+        done = λ p-pos t f u back ts fs us ub.
+            let b : Before = record { p-pos = p-pos; t = t; f = f; u = u; back = back; tower = ts; rest = fs; inverse = us; is-unit = ub } in
+            subst (λ y. Followed p p-pos d i t u y o w₀ v free unit) (sym (leading b .shape)) (h b);
+      }
 
       -- ---- the product of the leading coefficient and the dividend's inverse
       acting : Acting i d z p e e-in ea w₀ top
@@ -137,7 +152,7 @@ module _ {i : ℕ} {d z : List ℕ} {p : ℕ} {e : List ℤ} {e-in : Bool} {ea r
         tower = r .tower;
       }
 
-      at-stands : (b : Before) → Stands p d i (leading b .c) w₀ (row + (k - 1) * s)
+      pub at-stands : (b : Before) → Stands p d i (leading b .c) w₀ (row + (k - 1) * s)
       at-stands b = b .rest (k - 1) (omega (arith, some-k)) ∙ ap (write p d i) (leading b .here)
         where
           some-k : k ≡ suc (leading b .m)
@@ -222,17 +237,6 @@ module _ {i : ℕ} {d z : List ℕ} {p : ℕ} {e : List ℤ} {e-in : Bool} {ea r
           long₂ : length w₂ ≡ length w₀
           long₂ = inverted .frame .long ∙ times .frame .long
 
-          -- by the remainder's shape
-          followed : {v : List ℤ} (o : Turn) → ((b : Before) → Follows p (b .p-pos) d i (b .t) (b .u) (leading b .m)
-              (answer b) o v free unit)
-              → Besides free unit s top (inverseWork d i) w₀ v → FollowDone i d p e e-in ea row n unit w₀ v top o
-          followed {v} o h f = record {
-            frame = f;
-            done = λ p-pos t f u back ts fs us ub.
-                let b : Before = record { p-pos = p-pos; t = t; f = f; u = u; back = back; tower = ts; rest = fs; inverse = us; is-unit = ub } in
-                subst (λ y. Followed p p-pos d i t u y o w₀ v free unit) (sym (leading b .shape)) (h b);
-          }
-
           -- it is given
           module _ (ec : c ≡ Done) where
             given : (b : Before) → (j : El p d i)
@@ -297,14 +301,14 @@ module _ {i : ℕ} {d z : List ℕ} {p : ℕ} {e : List ℤ} {e-in : Bool} {ea r
   searches = rw one-size (size-pos d i, follow-top r)
 
   module _ {k : ℕ} (told : Top i n s w₀ (row - 1 + 1) k × (k ≤ n)) where
-    found : Top i n (size d i) w₀ (row - 1 + 1) k
+    pub found : Top i n (size d i) w₀ (row - 1 + 1) k
     found = subst (λ y. Top i n y w₀ (row - 1 + 1) k) one-size (told .0)
 
     pub follows-zero : k ≡ 0 → FollowDone i d p e e-in ea row n unit w₀ w₀ top (Next 0)
     follows-zero = follow-zero r found
 
     module _ (more : 0 < k) where
-      some : ¬ (k ≡ 0)
+      pub some : ¬ (k ≡ 0)
       some q = lt-irrefl 0 (omega (arith, q))
 
       -- the places computed fit

@@ -2,11 +2,13 @@
 --
 -- Stepped                == the next pair, after a turn
 -- turn-asks              == what a turn asks for;  turn-steps, turn-shows, turn-over == what it comes to
--- turns-asks             == what a turn of the loop asks for;  turns-next, turns-after == the next pair asks for no more, and its end is the end
+-- turns-asks             == what a turn of the loop asks for;  turns-fewer == the next second has fewer coefficients
+-- turns-next, turns-after == the next pair asks for no more, and its end is the end
 -- turns-shows, turns-over == a factor is shown; number 11 is not met
+-- turns-ones, turns-one  == the second is a constant: what writing 1 asks for, and leaves
 -- turns-monic, turns-end == what making the last one monic asks for, and leaves;  turns-long == the store is as long as before
--- Turning                == what holds wherever the loop's test is reached;  turning-fits, turning-start, turning-left, turning-next, turning-shows, turning-end
-use Prim.Native.Nat.{ℕ, suc, _+_, _-_, _*_, _^_, _<_, _≤_, max}
+-- Turning                == what holds wherever the loop's test is reached;  turning-fits, turning-start, turning-left, turning-next, turning-shows, turning-one, turning-end
+use Prim.Native.Nat.{ℕ, zero, suc, _+_, _-_, _*_, _^_, _<_, _≤_, max}
 use native.Mathlib.Nat.{lt-irrefl, mul-comm, mul-le-mul-right}
 use native.Mathlib.Omega.{arith}
 use mathlib.Core.Path.{_≡_, refl, ap, sym, _∙_, subst}
@@ -17,14 +19,18 @@ use lib.IntN.{ℤ}
 use lib.ListN.{length}
 use Rattle.algebra.specs.Test.{le-or-lt}
 use Rattle.algebra.specs.UnitDivide.{made-monic}
-use Rattle.algebra.specs.Vec.{coef}
+use Rattle.algebra.specs.Vec.{coef, topped}
+use Rattle.tower.specs.Form.{oneWords}
 use Rattle.tower.specs.Levels.{El, Tower, group, ring, Ones, one-not-zero}
+use Rattle.tower.specs.Ready.{Element, Positive}
+use Rattle.tower.specs.Stands.{Stands, one-long, one-stands}
+use Rattle.tower.specs.Store.{Put, kept-wide, put-kept}
 use Rattle.tower.specs.Writing.{size, size-pos, write}
 use Rattle.arithmetic.specs.Walk.{pick}
-use Rattle.products.specs.Product.{TowerStands}
+use Rattle.products.specs.Product.{TowerStands, Elements}
 use Rattle.euclid.specs.Answer.{Answer, map}
 use Rattle.euclid.specs.Gcd.{Made, wrap, nothing}
-use Rattle.euclid.specs.Lazy.{Led, whole, nothing-linear, lazy-fuel, lazy-swap}
+use Rattle.euclid.specs.Lazy.{Led, whole, nothing-linear, lazy-fuel, lazy-constant, lazy-swap}
 use Rattle.euclid.specs.One.{inv-one}
 use Rattle.euclid.specs.Towers.{Shown, level}
 use Rattle.sequences.specs.declared.Found.{Found}
@@ -210,6 +216,32 @@ module _ {i : ℕ} {d z : List ℕ} {p : ℕ} {e : List ℤ} {e-in : Bool} {ea f
       pub turns-over : c ≡ Over → ⊥
       turns-over ec = turn-over (r .sited) (r .tower) (r .sought) some c y ec
 
+  -- ---- the second is a constant: the GCD is 1, in its row
+  module _ (single : n ≡ 1) where
+    row-ends : gr + size d i ≤ top
+    row-ends = omega (arith, r .sited .second .row-below, ap (λ a. a * size d i) single)
+
+    pub turns-ones : Element i d z w gr × Positive i d
+    turns-ones = (record { low = r .sited .low; sized = r .sited .sized; inside = omega (arith, row-ends, r .sited .room) }, r .sited .positive)
+
+    pub turns-one : {v : List ℤ} → Put gr (oneWords d i) w v → TurnsDone i d p e e-in ea fr fu m gr gu n w v top (Greatest gr 1)
+    turns-one {v} put = record {
+      frame = λ base a b c l h. kept-wide c (omega (arith, row-ends, h)) (put-kept (size d i) (one-long d i (r .sited .positive)) put);
+      done = λ p-pos t answer tower sought.
+          let y = onward (r .sited) tower sought (omega (arith, single)) in
+          subst (λ a. Finds p p-pos d i t a (Greatest gr 1) v top)
+          (sym (y .comes ∙ ap (map wrap) (lazy-constant (level p p-pos d i t) (nothing (El p d i)) (y .k .degree) (sought .f) (y .k) (omega (arith, single, y .stands .count)))))
+          (gr, refl, omega (arith, row-ends), only p-pos t);
+    }
+      where
+        only : (p-pos : 0 < p) (t : Tower p d i)
+            → Elements p d i 1 (coef (group p p-pos d i .𝟘) 1 (topped 0 tt (ring p p-pos d i t .𝟙))) v gr
+        only p-pos t zero l =
+            let here : gr ≡ gr + 0 * size d i = omega arith in
+            subst (Stands p d i (ring p p-pos d i t .𝟙) v) here
+            (one-stands p p-pos d i v gr t (record { p-two = r .sited .two; degrees = r .sited .positive .some }) w put)
+        only p-pos t (suc j) l = absurd (lt-irrefl 0 (omega arith))
+
   -- ---- the end
   module _ (none : n ≡ 0) where
     -- there is no second
@@ -294,6 +326,9 @@ module _ {i : ℕ} {d z : List ℕ} {p : ℕ} {e : List ℤ} {e-in : Bool} {ea f
 
     pub turning-shows : (l at : ℕ) → c ≡ Shows l at → TurnsDone i d p e e-in ea fr₀ fu₀ m₀ gr₀ gu₀ n₀ w₀ v top (Divides l at)
     turning-shows l at ec = s .after v (Divides l at) (turns-shows (s .ready) some c y l at ec)
+
+  pub turning-one : n ≡ 1 → {v : List ℤ} → Put gr (oneWords d i) w v → TurnsDone i d p e e-in ea fr₀ fu₀ m₀ gr₀ gu₀ n₀ w₀ v top (Greatest gr 1)
+  turning-one single {v} put = s .after v (Greatest gr 1) (turns-one (s .ready) single put)
 
   pub turning-end : n ≡ 0 → {v : List ℤ} (o : Found) → MonicDone i d p e e-in ea fr fu m w v top o → TurnsDone i d p e e-in ea fr₀ fu₀ m₀ gr₀ gu₀ n₀ w₀ v top o
   turning-end none {v} o y = s .after v o (turns-end (s .ready) none o y)

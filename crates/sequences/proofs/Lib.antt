@@ -2,6 +2,8 @@ pub mod RowLaws
 pub mod RowLoops
 pub mod NumberLaws
 pub mod NumberRows
+pub mod LineLaws
+pub mod LineRows
 pub mod StartLaws
 pub mod SlotLaws
 pub mod AnswerLaws
@@ -13,6 +15,7 @@ pub mod StateLaws
 pub mod EndLaws
 pub mod BeginLaws
 pub mod FollowLaws
+pub mod FollowNumbers
 pub mod InvertLaws
 pub mod RunWords
 pub mod GcdPlaces

@@ -1,6 +1,6 @@
 -- Laws of numbers: level 0 as words.
 --
--- held-of                      == an element of level 0 that stands is a residue
+-- held-of                      == an element of level 0 that stands is a residue;  readable-kept, held-kept == a word that is as before
 -- times-numbers, times-number  == what a product of numbers asks for, and that it is a product of elements;  times-single == of one pair
 -- lose-dot, lost-word          == what the loss of a sum asks for, and that it is a product in place
 -- dot-room, dot-lost, times-written == the code's numbers
@@ -12,7 +12,7 @@ use mathlib.Core.Path.{_≡_, refl, ap, ap₂, sym, _∙_, subst}
 use mathlib.Core.Bool.{Bool, true, false}
 use mathlib.Core.List.{List, [], _∷_}
 use lib.IntN.{ℤ, pos}
-use lib.ListN.{length, set, length-set}
+use lib.ListN.{length, getD, set, length-set}
 use lib.Seq.{getD-set-same, getD-set-other}
 use Rattle.algebra.specs.Windows.{first, span}
 use Rattle.residue.specs.Number.{Modulus, Below, Room, Added, sumOf}
@@ -31,6 +31,13 @@ use Rattle.sequences.proofs.RowLaws.{times-asks, times-done}
 -- ---- words
 pub held-of : (p : ℕ) (d : List ℕ) (u : El p d 0) (w : List ℤ) (b : ℕ) → Modulus p → b < length w → Stands p d 0 u w b → Held p w b
 held-of p d u w b h l s = (readable p d u w b s h l, small p d u w b s)
+
+-- a word that is as before
+pub readable-kept : {w w′ : List ℤ} {a : ℕ} → length w′ ≡ length w → getD w′ a (pos 0) ≡ getD w a (pos 0) → Readable w a → Readable w′ a
+readable-kept l e h = record { inside = omega (arith, h .inside); narrow = subst Narrow (sym e) (h .narrow) }
+
+pub held-kept : {p : ℕ} {w w′ : List ℤ} {a : ℕ} → length w′ ≡ length w → getD w′ a (pos 0) ≡ getD w a (pos 0) → Held p w a → Held p w′ a
+held-kept l e h = (readable-kept l e (h .0), omega (arith, h .1, ap num e))
 
 -- the pairs of level 0 are those of the words
 run-dot : (d m : List ℕ) (x y : List ℤ) (n a b : ℕ) → runAt d m x y 0 n (size d 0) a b ≡ dotAt x y n 1 a b
@@ -128,11 +135,7 @@ held-same p w c n h l q =
     )
 
 held-other : (p : ℕ) (w : List ℤ) (c n a : ℕ) → ¬ (a ≡ c) → Held p w a → Held p (set w c (pos n)) a
-held-other p w c n a far h =
-    let e = getD-set-other w c a (pos n) (pos 0) far in (
-      record { inside = omega (arith, h .0 .inside, length-set w c (pos n)); narrow = subst Narrow (sym e) (h .0 .narrow) },
-      omega (arith, h .1, ap num e),
-    )
+held-other p w c n a far h = held-kept (length-set w c (pos n)) (getD-set-other w c a (pos n) (pos 0) far) h
 
 module _ {k p b g u : ℕ} {w : List ℤ} {a cap : ℕ} (r : DivideAtReady k p b g u w a cap) where
   -- the code's places

@@ -1,5 +1,6 @@
 -- Laws of rows of numbers: the division's loop at level 0, and the contracts of level 0 over no degrees and over any.
 --
+-- met-words                        == the places of a number's pairs;  LosingNumbers, losing-dot, losing-word == one number of a loss is one turn of its loop
 -- dividing-asks, dividing-next     == one number of a division is one turn of the division of elements
 -- stands-over, elements-over       == elements of level 0 are the same over any degrees
 -- numbers-acting                   == level 0 asks for no tower
@@ -21,16 +22,16 @@ use Rattle.tower.specs.Writing.{size, size-zero, write-zero, towerSize, towerWo
 use Rattle.tower.specs.Form.{seg}
 use Rattle.tower.specs.Ready.{Sized}
 use Rattle.tower.specs.Stands.{Stands}
-use Rattle.products.specs.Product.{Worked, work, work-zero, TowerStands, Elements, two, ProductDone}
+use Rattle.products.specs.Product.{Worked, work, work-zero, TowerStands, Elements, two, ProductReady, ProductDone}
 use Rattle.products.specs.Unit.{UnitReady}
 use Rattle.products.proofs.Frames.{picked-seg}
 use Rattle.products.proofs.Lowests.{single-done}
 use Rattle.products.proofs.Remainders.{Counted, outside-same, falling-inside, falling-asks}
 use Rattle.products.proofs.Units.{UnitFalling, unit-stood, unit-scale, unit-next}
 use Rattle.sequences.specs.Rows.{Acting, Between, ScaleRowReady, ScaleRowDone, LoseReady, LoseDone, DivideReady, DivideDone}
-use Rattle.sequences.specs.Numbers.{ones, DivideAtReady, rested, DividedAt}
+use Rattle.sequences.specs.Numbers.{ones, LoseDotReady, lostNumber, DivideAtReady, rested, DividedAt}
 use Rattle.sequences.specs.Numbers.{ScaleNumbersReady, ScaleNumbersDone, LoseNumbersReady, LoseNumbersDone, DivideNumbersReady, DivideNumbersDone}
-use Rattle.sequences.proofs.RowLoops.{Met}
+use Rattle.sequences.proofs.RowLoops.{Losing, Met, losing-asks, losing-next}
 use Rattle.sequences.proofs.NumberLaws.{held-of, times-single, lose-dot, lost-word}
 
 -- at level 0 a place is counted in words
@@ -42,13 +43,28 @@ abbrev pub no-places : List ℕ
 no-places = 0 ∷ 0 ∷ 0 ∷ 0 ∷ []
 
 -- ---- a row loses a product
-pub met-words : (d : List ℕ) {a m b n c k x y q : ℕ} → x ≡ first n k → y ≡ first m k → q ≡ span m n k → Met d 0 a m b n c k (a + x) (b + y) q (c + k)
-met-words d {a} {m} {b} {n} {c} {k} {x} {y} ex ey eq = record {
-  lefts = in-words d a x ∙ ap (λ (i : ℕ). a + i * size d 0) ex;
-  rights = in-words d b y ∙ ap (λ (i : ℕ). b + i * size d 0) ey;
+pub met-words : (d : List ℕ) {a m b n c k x y q at : ℕ} → x ≡ a + first n k → y ≡ b + first m k → q ≡ span m n k → at ≡ c + k → Met d 0 a m b n c k x y q at
+met-words d {a} {m} {b} {n} {c} {k} ex ey eq ea = record {
+  lefts = ex ∙ in-words d a (first n k);
+  rights = ey ∙ in-words d b (first m k);
   many = eq;
-  here = in-words d c k;
+  here = ea ∙ in-words d c k;
 }
+
+-- k numbers have lost theirs
+abbrev pub LosingNumbers : (p a m b n : ℕ) (w₀ : List ℤ) (c k : ℕ) → List ℤ → Type 0
+LosingNumbers p a m b n w₀ c k w = Losing 0 [] p [] true 0 a m b n w₀ c (length w₀) k w
+
+module _ {p a m b n : ℕ} {w₀ : List ℤ} {c : ℕ} (r : LoseNumbersReady p a m b n w₀ c) {k : ℕ} {w : List ℤ} (s : LosingNumbers p a m b n w₀ c k w) (here : k < m + n - 1)
+    {x y q at : ℕ} (l : Met [] 0 a m b n c k x y q at) where
+  asks : ProductReady 0 [] ones p no-places [] true 0 (two 0 [] true x [] true y q) true w at (length w₀)
+  asks = losing-asks r s here refl l
+
+  pub losing-dot : LoseDotReady p x y q w at
+  losing-dot = lose-dot asks
+
+  pub losing-word : {k′ : ℕ} {w′ : List ℤ} → k′ ≡ k + 1 → w′ ≡ set w at (pos (lostNumber p x y q w at)) → LosingNumbers p a m b n w₀ c k′ w′
+  losing-word ek h = losing-next r s here {o = no-places} refl l ek (lost-word asks h)
 
 -- ---- the division's loop
 module _ {d z : List ℕ} {p : ℕ} {e : List ℤ} {e-in : Bool} {ea : ℕ} {y : List ℤ} {b g : ℕ} {v : List ℤ} {u : ℕ} {w₀ : List ℤ} {a cap top : ℕ}

@@ -4,7 +4,7 @@
 -- run-level, run-fits, run-under, run-place, turn-place == the numbers fit
 -- run-reads, run-begins, run-count, run-inverts, run-loops, run-shows, run-over == the beginning
 -- run-ends                          == what the loop leaves is left from the beginning on
--- turn-numbers, turn-divides, turn-loses, turn-follows, turns-on, turns-to, turns-out == a turn
+-- turn-numbers, turn-divides, turn-loses, turn-follows, turns-fewer, turns-on, turns-to, turns-out == a turn
 -- factor-scales, factor-finishes, ends-factor    == the end where the remainder was zero
 -- inverse-scales, inverse-finishes, ends-inverse == the end where k is a constant
 use Prim.Native.Nat.{ℕ, suc, _+_, _-_, _*_, _<_, _≤_}
@@ -30,7 +30,7 @@ use Rattle.sequences.specs.Starts.{BeginReady, BeginDone, FinishReady, F
 use Rattle.sequences.specs.Outcomes.{RunReady, RunDone, InvertReady, InvertDone, FollowReady, FollowDone}
 use Rattle.sequences.proofs.RunLaws.{underOf, nextOf, run-some, run-room, run-earlier}
 use Rattle.sequences.proofs.BeginLaws.{Leads, leads, begin-reads, begin-ready, begin-counts, begin-asks, begin-frame, begin-going, begin-shows, begin-over}
-use Rattle.sequences.proofs.StateLaws.{Looping, loop-begins, loop-counts, loop-divide, loop-lose, loop-follow, loop-next, loop-shows, loop-over}
+use Rattle.sequences.proofs.StateLaws.{Looping, loop-begins, loop-counts, loop-divide, loop-lose, loop-follow, loop-fewer, loop-next, loop-shows, loop-over}
 use Rattle.sequences.proofs.EndLaws.{end-factor-asks, end-factor-finish, end-factor, end-inverse-asks, end-inverse-finish, end-inverse}
 
 -- what the code reads of the degrees and sizes
@@ -172,6 +172,9 @@ module _ {I : ℕ} {d z : List ℕ} {p : ℕ} {e : List ℤ} {e-in : Bool} {ea :
         module _ {w₃ : List ℤ} (c : Turn) (follow : FollowDone h d p e e-in (ea + S + s) fr (kn - 1) fu w₂ w₃ (top + 5 * ((g + 1) * s + 1)) c) where
           follow′ : FollowDone h d p e e-in (underOf d h ea) fr (kn - 1) fu w₂ w₃ (nextOf d h top) c
           follow′ = rw (under, here, each) at follow
+
+          pub turns-fewer : (n : ℕ) → c ≡ Next n → n < kn
+          turns-fewer = loop-fewer l more divided′ lose′ c follow′
 
           pub turns-on : (n : ℕ) → c ≡ Next n → Looping h d z p e e-in ea x x-in a w₀ top kr kc ku kn fr fc fu n (left - 1) w₃
           turns-on = loop-next l more divided′ lose′ c follow′

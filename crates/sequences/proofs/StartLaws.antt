@@ -2,6 +2,7 @@
 --
 -- bring-store, bring-lent, brought   == words of an operand copied
 -- unit-put, unit-done, factor-put, factor-done == the inverse of a number
+-- next-put, next-done, shows-put, shows-done   == that of the last of a row's numbers
 -- number-asks, number-done           == it is the inverse at level 0
 -- finish-place, -zeros, -settle, finished == zeros and a degree word;  finish-frame, finish-element == where that is an element
 use Prim.Native.Nat.{ℕ, zero, suc, _+_, _-_, _*_, _%_, _^_, _<_, _≤_}
@@ -17,7 +18,7 @@ use lib.ListN.{length, set}
 use Rattle.algebra.specs.Test.{le-or-lt}
 use Rattle.algebra.specs.Vec.{Vec, coef, coef-below, trunc, trunc-at}
 use Rattle.algebra.specs.Zmod.{Residue, toZ, residue-path}
-use Rattle.residue.specs.Number.{UnitOf, FactorOf, Inverted}
+use Rattle.residue.specs.Number.{Modulus, UnitOf, FactorOf, Inverted}
 use Rattle.residue.specs.Word.{num, at}
 use Rattle.residue.specs.declared.Inverse.{Inverse}
 use Rattle.residue.specs.declared.Inverse.the-variants.{Unit as Found, Factor as Common}
@@ -38,9 +39,10 @@ use Rattle.euclid.specs.Shown.{shownWords}
 use Rattle.euclid.specs.Number.{inverse₀, done₀, shown₀}
 use Rattle.sequences.specs.declared.Outcome.{Outcome}
 use Rattle.sequences.specs.declared.Outcome.the-variants.{Done, Factor}
+use Rattle.sequences.specs.declared.Turn.the-variants.{Next, Shows}
 use Rattle.sequences.specs.Outcomes.{Came, InvertReady, InvertDone}
 use Rattle.sequences.proofs.NumberLaws.{held-of}
-use Rattle.sequences.specs.Starts.{BringReady, NumberReady, Came₀, NumberDone, FinishReady, FinishDone}
+use Rattle.sequences.specs.Starts.{BringReady, NumberReady, Came₀, NumberDone, FollowNumberReady, Follows₀, FollowNumberDone, FinishReady, FinishDone}
 
 -- ---- copies
 module _ {x : List ℤ} {x-in : Bool} {a : ℕ} {w : List ℤ} {c n : ℕ} (r : BringReady x x-in a w c n) where
@@ -57,44 +59,88 @@ module _ {x : List ℤ} {x-in : Bool} {a : ℕ} {w : List ℤ} {c n : ℕ} (r : 
   pub brought : {y w′ : List ℤ} → pick x-in w x ≡ y → Put c (seg a n y) w w′ → Put c (seg a n (pick x-in w x)) w w′
   brought e h = rw e h
 
+-- ---- what the code's inverse of n says of the residue of n
+module _ {p : ℕ} (modulus : Modulus p) {n u : ℕ} where
+  module _ (h : UnitOf p n u) where
+    unit-fits : u < 2 ^ 63
+    unit-fits = omega (arith, h .small, modulus .narrow)
+
+    is-done : 1 < p → (p-pos : 0 < p) (v : Residue p) → n ≡ v .0 → ¬ (v ≡ toZ p p-pos 0) → inverse₀ p p-pos v ≡ done (u, lt→ltb u p (h .small))
+    is-done two p-pos v ev some =
+        done₀ p p-pos v (u, lt→ltb u p (h .small)) (λ k d q. h .coprime k d (rw ev q))
+        (residue-path p _ _ (ap (λ m. (u * m) % p) (sym ev) ∙ h .inverse ∙ sym (mod-eq-of-lt two))) some
+
+  module _ (h : FactorOf p n u) where
+    factor-fits : u < 2 ^ 63
+    factor-fits = omega (arith, le-of-dvd (modulus .positive) (h .common u .0 (dvd-refl u) .0), modulus .narrow)
+
+    is-shown : (p-pos : 0 < p) (v : Residue p) → n ≡ v .0 → inverse₀ p p-pos v ≡ shown u
+    is-shown p-pos v ev = shown₀ p p-pos v u (rw ev at (h .common)) (h .above)
+
+-- one word has changed
+set-kept : {w w′ : List ℤ} (c u : ℕ) → w′ ≡ set w c (pos u) → Kept c 1 w w′
+set-kept {w} c u ew = subst (Kept c 1 w) (sym ew) (kept-set w c (pos u))
+
 -- ---- the inverse of a number
 module _ {p : ℕ} {x : List ℤ} {x-in : Bool} {a : ℕ} {w : List ℤ} {c : ℕ} (r : NumberReady p x x-in a w c) {n : ℕ} (en : n ≡ at (pick x-in w x) a) {i : Inverse}
-    (h : Inverted p n i) where
-  module _ {u : ℕ} (ei : i ≡ Found u) where
+    (h : Inverted p n i) {u : ℕ} where
+  module _ (ei : i ≡ Found u) where
     unit : UnitOf p n u
     unit = subst (Inverted p n) ei h
 
     pub unit-put : (c < length w) × (u < 2 ^ 63)
-    unit-put = (r .c-inside, omega (arith, unit .small, r .modulus .narrow))
+    unit-put = (r .c-inside, unit-fits (r .modulus) unit)
 
     pub unit-done : {w′ : List ℤ} → w′ ≡ set w c (pos u) → NumberDone p x x-in a w w′ c Done
     unit-done {w′} ew = record {
-      frame = subst (Kept c 1 w) (sym ew) (kept-set w c (pos u));
-      done = λ p-pos v ev some. came p-pos v (en ∙ ev) some;
+      frame = set-kept c u ew;
+      done = λ p-pos v ev some.
+          subst (λ s. Came₀ p s Done w w′ c) (sym (is-done (r .modulus) unit (r .two) p-pos v (en ∙ ev) some)) (refl, ew);
     }
-      where
-        own : Residue p
-        own = (u, lt→ltb u p (unit .small))
 
-        came : (p-pos : 0 < p) (v : Residue p) → n ≡ v .0 → ¬ (v ≡ toZ p p-pos 0) → Came₀ p (inverse₀ p p-pos v) Done w w′ c
-        came p-pos v ev some =
-            let is : inverse₀ p p-pos v ≡ done own =
-            done₀ p p-pos v own (λ k d q. unit .coprime k d (rw ev q))
-            (residue-path p _ _ (ap (λ m. (u * m) % p) (sym ev) ∙ unit .inverse ∙ sym (mod-eq-of-lt (r .two)))) some in
-            subst (λ s. Came₀ p s Done w w′ c) (sym is) (refl, ew)
-
-  module _ {u : ℕ} (ei : i ≡ Common u) where
-    common : FactorOf p n u
-    common = subst (Inverted p n) ei h
+  module _ (ei : i ≡ Common u) where
+    factor : FactorOf p n u
+    factor = subst (Inverted p n) ei h
 
     pub factor-put : (c < length w) × (u < 2 ^ 63)
-    factor-put = (r .c-inside, omega (arith, le-of-dvd (r .modulus .positive) (common .common u .0 (dvd-refl u) .0), r .modulus .narrow))
+    factor-put = (r .c-inside, factor-fits (r .modulus) factor)
 
     pub factor-done : {w′ : List ℤ} → w′ ≡ set w c (pos u) → NumberDone p x x-in a w w′ c (Factor 0)
     factor-done {w′} ew = record {
-      frame = subst (Kept c 1 w) (sym ew) (kept-set w c (pos u));
+      frame = set-kept c u ew;
       done = λ p-pos v ev some.
-          subst (λ s. Came₀ p s (Factor 0) w w′ c) (sym (shown₀ p p-pos v u (rw (en ∙ ev) at (common .common)) (common .above))) (refl, ew);
+          subst (λ s. Came₀ p s (Factor 0) w w′ c) (sym (is-shown (r .modulus) factor p-pos v (en ∙ ev))) (refl, ew);
+    }
+
+-- ---- the inverse of the last of a row's numbers
+module _ {p row n k unit : ℕ} {w : List ℤ} (r : FollowNumberReady p row n k unit w) {c : ℕ} (ec : c ≡ at w (row + (k - 1))) {i : Inverse}
+    (h : Inverted p c i) {u : ℕ} where
+  module _ (ei : i ≡ Found u) where
+    found : UnitOf p c u
+    found = subst (Inverted p c) ei h
+
+    pub next-put : (unit < length w) × (u < 2 ^ 63)
+    next-put = (r .unit-inside, unit-fits (r .modulus) found)
+
+    pub next-done : {w′ : List ℤ} → w′ ≡ set w unit (pos u) → FollowNumberDone p row n k unit w w′ (Next k)
+    next-done {w′} ew = record {
+      frame = inl (set-kept unit u ew);
+      done = λ p-pos v ev some.
+          subst (λ s. Follows₀ p s k (row + n) unit (Next k) w w′) (sym (is-done (r .modulus) found (r .two) p-pos v (ec ∙ ev) some)) (refl, ew);
+    }
+
+  module _ (ei : i ≡ Common u) where
+    shared : FactorOf p c u
+    shared = subst (Inverted p c) ei h
+
+    pub shows-put : (row + n < length w) × (u < 2 ^ 63)
+    shows-put = (r .free-inside, factor-fits (r .modulus) shared)
+
+    pub shows-done : {w′ : List ℤ} → w′ ≡ set w (row + n) (pos u) → FollowNumberDone p row n k unit w w′ (Shows 0 (row + n))
+    shows-done {w′} ew = record {
+      frame = inr (set-kept (row + n) u ew);
+      done = λ p-pos v ev some.
+          subst (λ s. Follows₀ p s k (row + n) unit (Shows 0 (row + n)) w w′) (sym (is-shown (r .modulus) shared p-pos v (ec ∙ ev))) (refl, ew);
     }
 
 -- level 0 of the inverse

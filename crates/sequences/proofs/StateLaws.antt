@@ -3,6 +3,7 @@
 -- Going, Zero    == f and k follow each other, with counts fn and kn; or the remainder was zero, and f is the factor
 -- Looping        == what holds wherever the loop's test is reached;  loop-begins == the store where the loop begins may stand for the one before it
 -- loop-counts    == the numbers;  loop-divide, loop-lose, loop-follow == what a turn asks for
+-- loop-fewer     == the remainder has fewer coefficients than the divisor
 -- loop-next, loop-shows, loop-over == the next turn; a factor of a level below; number 11 is not met
 use Prim.Native.Nat.{ℕ, suc, _+_, _-_, _*_, _<_, _≤_}
 use native.Mathlib.Nat.{lt-irrefl}
@@ -200,6 +201,14 @@ module _ {h : ℕ} {d z : List ℕ} {p : ℕ} {e : List ℤ} {e-in : Bool} {ea :
               by-shape (strip (isZero p d h) (k .degree) (rest R f k)) (strip-ok (zero-test p (r .p-pos) d h) (k .degree) (rest R f k))
               (turn-followed r (go .turning) some (s .laid) (s .frame) (go .f-stands) (go .k-stands) divided′ lose′ c follow′)
 
+        -- the remainder has fewer coefficients than k
+        pub loop-fewer : (n : ℕ) → c ≡ Next n → n < kn
+        loop-fewer n ec =
+            by-cases _ (λ st q. let none : n ≡ 0 = cc in omega (arith, none, more))
+            (λ j u y st q.
+            let i = follows-next p (r .p-pos) d h (r .t .0) w₃ (f .unit) j free fu c n ec (answer y) q in
+            omega (arith, i .2, st .0, go .k-count))
+
         pub loop-next : (n : ℕ) → c ≡ Next n → Looping h d z p e e-in ea x x-in a w₀ top kr kc ku kn fr fc fu n (left - 1) w₃
         loop-next n ec =
             by-cases _
@@ -209,7 +218,7 @@ module _ {h : ℕ} {d z : List ℕ} {p : ℕ} {e : List ℤ} {e-in : Bool} {ea :
               ready = r;
               frame = loop-frame;
               laid = laid-swap (s .laid);
-              few = omega (arith, none);
+              few = omega (arith, loop-fewer n ec, s .few);
               state = inr (record {
                 none = none;
                 f = k;
@@ -227,7 +236,7 @@ module _ {h : ℕ} {d z : List ℕ} {p : ℕ} {e : List ℤ} {e-in : Bool} {ea :
               ready = r;
               frame = loop-frame;
               laid = laid-swap (s .laid);
-              few = omega (arith, i .2, st .0, s .few, k-low);
+              few = omega (arith, loop-fewer n ec, s .few);
               state = inl (record {
                 f = k;
                 k = _;

@@ -4,6 +4,7 @@
 -- Held                       == the word at a place is a residue
 -- TimesNumbersReady, timesNumber == a product of two numbers
 -- LoseDotReady, lostNumber   == a number loses products of pairs of numbers
+-- LoseRowReady, lostPair, LoseRowDone == each of n numbers loses two multiples
 -- DivideAtReady, DividedAt   == the k-th number of a row that is divided in place: what is left of it, and from g on that times the inverse
 -- Numbers..                  == the contracts of rows of level 0
 use Prim.Native.Nat.{ℕ, _+_, _-_, _*_, _%_, _^_, _<_, _≤_}
@@ -11,13 +12,14 @@ use mathlib.Core.Path.{_≡_}
 use mathlib.Core.Bool.{true}
 use mathlib.Core.List.{List, [], _∷_}
 use lib.IntN.{ℤ, pos}
-use lib.ListN.{length, set}
+use lib.ListN.{length, getD, set}
 use Rattle.algebra.specs.Windows.{first, span}
 use Rattle.residue.specs.Number.{Modulus}
 use Rattle.residue.specs.Word.{at}
+use Rattle.tower.specs.Store.{Kept}
 use Rattle.arithmetic.specs.Sum.{gainedNumber}
 use Rattle.arithmetic.specs.Walk.{dotAt, Readable}
-use Rattle.sequences.specs.Rows.{ScaleRowReady, ScaleRowDone, LoseReady, LoseDone, DivideReady, DivideDone}
+use Rattle.sequences.specs.Rows.{Between, ScaleRowReady, ScaleRowDone, LoseReady, LoseDone, DivideReady, DivideDone}
 
 -- a residue
 abbrev pub Held : ℕ → List ℤ → ℕ → Type 0
@@ -43,6 +45,24 @@ pub record LoseDotReady (p a b n : ℕ) (w : List ℤ) (c : ℕ) : Type 0 where
 
 abbrev pub lostNumber : (p a b n : ℕ) → List ℤ → ℕ → ℕ
 lostNumber p a b n w c = gainedNumber true p (at w c) (dotAt w w n 1 a b % p)
+
+-- ---- n numbers from c on: q times those from b + 1 on, and r times those from b on
+pub record LoseRowReady (p q r b n : ℕ) (w : List ℤ) (c : ℕ) : Type 0 where
+  pub modulus : Modulus p
+  pub q-narrow : q < 2 ^ 32
+  pub r-narrow : r < 2 ^ 32
+  pub words : (k : ℕ) → b ≤ k → k ≤ b + n → Readable w k
+  pub old : (k : ℕ) → k < n → Held p w (c + k)
+  pub apart : Between b (n + 1) c n
+
+-- what the k-th number becomes
+abbrev pub lostPair : (p q r b : ℕ) → List ℤ → (c k : ℕ) → ℕ
+lostPair p q r b w c k = gainedNumber true p (at w (c + k)) ((q * at w (b + 1 + k) + r * at w (b + k)) % p)
+
+-- all n do, and no other word changes
+pub record LoseRowDone (p q r b n : ℕ) (w w′ : List ℤ) (c : ℕ) : Type 0 where
+  pub frame : Kept c n w w′
+  pub lost : (k : ℕ) → k < n → getD w′ (c + k) (pos 0) ≡ pos (lostPair p q r b w c k)
 
 -- ---- the k-th number of the row from a on
 pub record DivideAtReady (k p b g u : ℕ) (w : List ℤ) (a cap : ℕ) : Type 0 where

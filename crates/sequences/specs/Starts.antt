@@ -2,12 +2,14 @@
 --
 -- BringReady            == n words of an operand may be copied to c
 -- NumberReady, Came₀, NumberDone == the inverse of a number, or its greatest common divisor with p
+-- FollowNumberReady, Follows₀, FollowNumberDone == the same of the last of a row's numbers, the inverse and the divisor at places of their own
 -- slot                  == the words of one of an inverse's five slots
 -- BeginReady, Begun, BeginDone   == the two polynomials, what they carry, and the first one's inverse
 -- FinishReady, FinishDone        == n elements, then zeros, then the degree word in front of them
 use Prim.Native.Nat.{ℕ, suc, _+_, _-_, _*_, _<_, _≤_}
 use mathlib.Core.Path.{_≡_}
 use mathlib.Core.Bool.{Bool}
+use mathlib.Core.Logic.{_⊎_}
 use mathlib.Core.List.{List}
 use lib.IntN.{ℤ, pos}
 use lib.ListN.{length, set}
@@ -28,6 +30,8 @@ use Rattle.euclid.specs.Answer.{Answer, done, shown, long}
 use Rattle.euclid.specs.Number.{inverse₀}
 use Rattle.sequences.specs.declared.Outcome.{Outcome}
 use Rattle.sequences.specs.declared.Outcome.the-variants.{Done, Factor}
+use Rattle.sequences.specs.declared.Turn.{Turn}
+use Rattle.sequences.specs.declared.Turn.the-variants.{Next, Shows}
 use Rattle.sequences.specs.Numbers.{Held}
 
 -- ---- copies
@@ -51,6 +55,27 @@ Came₀ p long r w w′ c = ⊥
 pub record NumberDone (p : ℕ) (x : List ℤ) (x-in : Bool) (a : ℕ) (w w′ : List ℤ) (c : ℕ) (r : Outcome) : Type 0 where
   pub frame : Kept c 1 w w′
   pub done : (p-pos : 0 < p) (v : Residue p) → at (pick x-in w x) a ≡ v .0 → ¬ (v ≡ toZ p p-pos 0) → Came₀ p (inverse₀ p p-pos v) r w w′ c
+
+-- ---- the inverse of the last of the k numbers at row, which is not 0, at unit; or its greatest common divisor with p above the n numbers of the row
+pub record FollowNumberReady (p row n k unit : ℕ) (w : List ℤ) : Type 0 where
+  pub modulus : Modulus p
+  pub two : 1 < p
+  pub some : 0 < k
+  pub number : Held p w (row + (k - 1))
+  pub unit-inside : unit < length w
+  pub free-inside : row + n < length w
+
+-- the inverse stands at unit, or the divisor at free
+abbrev pub Follows₀ : (p : ℕ) → Answer ℕ (Residue p) → (k free unit : ℕ) → Turn → List ℤ → List ℤ → Type 0
+Follows₀ p (done u) k free unit r w w′ = (r ≡ Next k) × (w′ ≡ set w unit (pos (u .0)))
+Follows₀ p (shown h) k free unit r w w′ = (r ≡ Shows 0 free) × (w′ ≡ set w free (pos h))
+Follows₀ p long k free unit r w w′ = ⊥
+
+-- one of the two words has changed
+pub record FollowNumberDone (p row n k unit : ℕ) (w w′ : List ℤ) (r : Turn) : Type 0 where
+  pub frame : Kept unit 1 w w′ ⊎ Kept (row + n) 1 w w′
+  pub done : (p-pos : 0 < p) (v : Residue p) → at w (row + (k - 1)) ≡ v .0 → ¬ (v ≡ toZ p p-pos 0)
+      → Follows₀ p (inverse₀ p p-pos v) k (row + n) unit r w w′
 
 -- ---- the start at level h + 1
 -- d_(h+1) + 1 coefficients and a word

@@ -1,5 +1,5 @@
 // GCD of two polynomials in the store: both leading coefficients are inverted, the first one's first; then the remainders are taken in turn, the row of the
-// dividend becoming that of the remainder; the last polynomial that is not zero is made monic.
+// dividend becoming that of the remainder. A constant ends it, and the GCD is 1; else the last polynomial that is not zero is made monic.
 ghost use mathlib.Core.Path.{_≡_};
 ghost use Prim.Native.Nat.{max};
 ghost use Rattle.sequences.specs.Gcds.{LeadReady, LeadDone, MonicReady, MonicDone, TurnReady, TurnDone, TurnsReady, TurnsDone, GcdReady, GcdDone};
@@ -13,6 +13,7 @@ use crate::Outcome;
 use crate::Turn;
 use arithmetic::places::part_at;
 use tower::sizes::size_at;
+use tower::store::one;
 
 // The inverse of the leading coefficient of f, where it has one.
 pub fn lead(
@@ -133,7 +134,7 @@ pub fn turns(
     let mut f = first;
     let mut g = second;
     let mut left = larger(f.count, g.count) + 1;
-    while 0 < g.count {
+    while 1 < g.count {
         if left == 0 {
             return Found::Never;
         }
@@ -156,6 +157,11 @@ pub fn turns(
                 return Found::Never;
             }
         }
+    }
+    if g.count == 1 {
+        // the remainder by a constant is zero
+        one(i, d, z, w, g.row);
+        return Found::Greatest(g.row, 1);
     }
     monic(i, d, z, p, e, e_in, ea, f, w, top)
 }

@@ -11,6 +11,7 @@ use super::rows::times;
 use super::starts::begin;
 use super::starts::count_in;
 use super::starts::finish;
+use super::starts::follow_number;
 use super::starts::invert_number;
 use crate::Ended;
 use crate::Led;
@@ -79,6 +80,9 @@ pub fn follow(
     let k = top_of(i, n, s, w, row - 1);
     if k == 0 {
         return Turn::Next(0);
+    }
+    if i == 0 {
+        return follow_number(p, row, n, k, unit, w);
     }
     let free = part_at(row, n, s);
     times(

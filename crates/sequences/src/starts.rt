@@ -8,8 +8,9 @@ ghost use Rattle.tower.specs.Form.{seg};
 ghost use Rattle.tower.specs.Store.{Put};
 ghost use Rattle.tower.specs.Writing.{countOf};
 ghost use Rattle.arithmetic.specs.Walk.{pick, Readable};
-ghost use Rattle.sequences.specs.Starts.{BringReady, NumberReady, NumberDone, BeginReady, BeginDone, FinishReady, FinishDone};
+ghost use Rattle.sequences.specs.Starts.{BringReady, NumberReady, NumberDone, FollowNumberReady, FollowNumberDone, BeginReady, BeginDone, FinishReady, FinishDone};
 use crate::Outcome;
+use crate::Turn;
 use arithmetic::places::part_at;
 use arithmetic::rows::settle;
 use residue::Inverse;
@@ -67,6 +68,24 @@ pub fn invert_number(p: u64, x: &[i64], x_in: bool, a: usize, w: &mut [i64], c: 
         Inverse::Factor(h) => {
             residue::put(w, c, h);
             Outcome::Factor(0)
+        }
+    }
+}
+
+// Level 0 of `follow`: the inverse of the last of the k numbers at row, at unit; or its greatest common divisor with p above the n numbers of the row.
+// The sequence inverts that number times the unit at hand, and multiplies by the unit again: what comes out is the same.
+pub fn follow_number(p: u64, row: usize, n: usize, k: usize, unit: usize, w: &mut [i64]) -> Turn
+    requires { ⌜ FollowNumberReady p row n k unit (now w) ⌝ }
+    ensures { λ r. ⌜ FollowNumberDone p row n k unit (now (w .entry)) (now (w .exit)) r ⌝ }
+{
+    match inverse(residue::get_residue(w, row + (k - 1)), p) {
+        Inverse::Unit(u) => {
+            residue::put(w, unit, u);
+            Turn::Next(k)
+        }
+        Inverse::Factor(h) => {
+            residue::put(w, row + n, h);
+            Turn::Shows(0, row + n)
         }
     }
 }

@@ -1,8 +1,8 @@
 use borrow.Author.Needs.{needs}
 use native.Mathlib.Omega.{arith}
 use native.Mathlib.Nat.{lt-irrefl}
-use Rattle.sequences.proofs.GcdLaws.{turns-asks, turns-over, turns-monic, turns-long}
-use Rattle.sequences.proofs.GcdLaws.{Turning, turning-fits, turning-start, turning-left, turning-next, turning-shows, turning-end}
+use Rattle.sequences.proofs.GcdLaws.{turns-asks, turns-fewer, turns-over, turns-ones, turns-monic, turns-long}
+use Rattle.sequences.proofs.GcdLaws.{Turning, turning-fits, turning-start, turning-left, turning-next, turning-shows, turning-one, turning-end}
 use Rattle.sequences.proofs.gcd.turns.Statement.{statement}
 use Rattle.sequences.proofs.gcd.turns.Tie as tie
 
@@ -11,7 +11,7 @@ Inv-loop i d z p e e-in ea w₀ top f₀ g₀ left₀ w f g left =
     Turning i d z p e e-in ea (f₀ .row) (f₀ .unit) (f₀ .count) (g₀ .row) (g₀ .unit) (g₀ .count) w₀ top (f .row) (f .unit) (f .count) (g .row) (g .unit) (g .count) left w
 
 abbrev μ-loop : tie.MeasureT-loop
-μ-loop i d z p e e-in ea w₀ top f₀ g₀ left₀ w f g left = left
+μ-loop i d z p e e-in ea w₀ top f₀ g₀ left₀ w f g left = g .count
 
 larger-requires : tie.Need-larger-requires Inv-loop μ-loop
 larger-requires c κs = tt
@@ -32,20 +32,24 @@ sub-left : tie.Need-sub-left Inv-loop μ-loop
 sub-left c = turning-left (c .before .before .before .loop .inv)
 
 turn-requires : tie.Need-turn-requires Inv-loop μ-loop
-turn-requires c κs = turns-asks (c .before .before .before .before .loop .inv .ready) (c .before .before .if1 .taken)
+turn-requires c κs = turns-asks (c .before .before .before .before .loop .inv .ready) (omega (arith, c .before .before .if1 .taken))
 
 enum-known-n : tie.Need-enum-known-n Inv-loop μ-loop
 enum-known-n c = search needs
 
 loop-less : tie.Need-loop-less Inv-loop μ-loop
-loop-less c = omega (arith, turning-left (c .before .before .before .before .before .before .before .before .before .loop .inv))
+loop-less c =
+    let loop = c .before .before .before .before .before .before .before .before .before .loop in
+    let if1 = c .before .before .before .before .before .before .before .if1 in
+    let turn = c .before .before .before .before .turn in
+    turns-fewer (loop .inv .ready) (omega (arith, if1 .taken)) (turn .result) (turn .ensures) _ (c .before .n .given .1)
 
 loop-again : tie.Need-loop-again Inv-loop μ-loop
 loop-again c =
     let loop = c .before .before .before .before .before .before .before .before .before .loop in
     let if1 = c .before .before .before .before .before .before .before .if1 in
     let turn = c .before .before .before .before .turn in
-    turning-next (loop .inv) (if1 .taken) (turn .result) (turn .ensures) _ (c .before .n .given .1)
+    turning-next (loop .inv) (omega (arith, if1 .taken)) (turn .result) (turn .ensures) _ (c .before .n .given .1)
 
 enum-known-level : tie.Need-enum-known-level Inv-loop μ-loop
 enum-known-level c = search needs
@@ -55,14 +59,14 @@ same-length-2 c =
     let loop = c .before .before .before .before .before .before .before .before .before .loop in
     let if1 = c .before .before .before .before .before .before .before .if1 in
     let turn = c .before .before .before .before .turn in
-    turns-long (turning-shows (loop .inv) (if1 .taken) (turn .result) (turn .ensures) _ _ (c .before .level .given .1))
+    turns-long (turning-shows (loop .inv) (omega (arith, if1 .taken)) (turn .result) (turn .ensures) _ _ (c .before .level .given .1))
 
 returns-2 : tie.Need-returns-2 Inv-loop μ-loop
 returns-2 c =
     let loop = c .before .before .before .before .before .before .before .before .before .loop in
     let if1 = c .before .before .before .before .before .before .before .if1 in
     let turn = c .before .before .before .before .turn in
-    turning-shows (loop .inv) (if1 .taken) (turn .result) (turn .ensures) _ _ (c .before .level .given .1)
+    turning-shows (loop .inv) (omega (arith, if1 .taken)) (turn .result) (turn .ensures) _ _ (c .before .level .given .1)
 
 enum-told : tie.Need-enum-told Inv-loop μ-loop
 enum-told c = search needs
@@ -72,31 +76,48 @@ same-length-3 c =
     let loop = c .before .before .before .before .before .before .before .before .loop in
     let if1 = c .before .before .before .before .before .before .if1 in
     let turn = c .before .before .before .turn in
-    absurd (turns-over (loop .inv .ready) (if1 .taken) (turn .result) (turn .ensures) (c .enum-told .given .1))
+    absurd (turns-over (loop .inv .ready) (omega (arith, if1 .taken)) (turn .result) (turn .ensures) (c .enum-told .given .1))
 
 returns-3 : tie.Need-returns-3 Inv-loop μ-loop
 returns-3 c =
     let loop = c .before .before .before .before .before .before .before .before .loop in
     let if1 = c .before .before .before .before .before .before .if1 in
     let turn = c .before .before .before .turn in
-    absurd (turns-over (loop .inv .ready) (if1 .taken) (turn .result) (turn .ensures) (c .enum-told .given .1))
+    absurd (turns-over (loop .inv .ready) (omega (arith, if1 .taken)) (turn .result) (turn .ensures) (c .enum-told .given .1))
 
-monic-requires : tie.Need-monic-requires Inv-loop μ-loop
-monic-requires c κs = turns-monic (c .before .before .before .loop .inv .ready) (omega (arith, c .before .if1 .left))
+one-requires : tie.Need-one-requires Inv-loop μ-loop
+one-requires c κs = turns-ones (c .before .before .before .before .before .loop .inv .ready) (c .before .if3 .taken)
 
 same-length-4 : tie.Need-same-length-4 Inv-loop μ-loop
 same-length-4 c =
-    let loop = c .before .before .before .before .before .loop in
-    let if1 = c .before .before .before .if1 in
-    let monic = c .before .monic in
-    turns-long (turning-end (loop .inv) (omega (arith, if1 .left)) (monic .result) (monic .ensures))
+    let loop = c .before .before .before .before .before .before .before .loop in
+    let if3 = c .before .before .before .if3 in
+    turns-long (turning-one (loop .inv) (if3 .taken) (c .before .one .ensures))
 
 returns-4 : tie.Need-returns-4 Inv-loop μ-loop
 returns-4 c =
-    let loop = c .before .before .before .before .before .loop in
-    let if1 = c .before .before .before .if1 in
+    let loop = c .before .before .before .before .before .before .before .loop in
+    let if3 = c .before .before .before .if3 in
+    turning-one (loop .inv) (if3 .taken) (c .before .one .ensures)
+
+monic-requires : tie.Need-monic-requires Inv-loop μ-loop
+monic-requires c κs = turns-monic (c .before .before .before .before .before .loop .inv .ready) (omega (arith, c .before .before .before .if1 .left, c .before .if3 .left))
+
+same-length-5 : tie.Need-same-length-5 Inv-loop μ-loop
+same-length-5 c =
+    let loop = c .before .before .before .before .before .before .before .loop in
+    let if1 = c .before .before .before .before .before .if1 in
+    let if3 = c .before .before .before .if3 in
     let monic = c .before .monic in
-    turning-end (loop .inv) (omega (arith, if1 .left)) (monic .result) (monic .ensures)
+    turns-long (turning-end (loop .inv) (omega (arith, if1 .left, if3 .left)) (monic .result) (monic .ensures))
+
+returns-5 : tie.Need-returns-5 Inv-loop μ-loop
+returns-5 c =
+    let loop = c .before .before .before .before .before .before .before .loop in
+    let if1 = c .before .before .before .before .before .if1 in
+    let if3 = c .before .before .before .if3 in
+    let monic = c .before .monic in
+    turning-end (loop .inv) (omega (arith, if1 .left, if3 .left)) (monic .result) (monic .ensures)
 
 pub turns-spec : {M : Type 1} → statement M
 turns-spec =
@@ -120,6 +141,9 @@ turns-spec =
     enum-told
     same-length-3
     returns-3
-    monic-requires
+    one-requires
     same-length-4
-    returns-4)
+    returns-4
+    monic-requires
+    same-length-5
+    returns-5)

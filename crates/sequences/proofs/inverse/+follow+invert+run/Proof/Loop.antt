@@ -49,7 +49,7 @@ Inv-loop i d z p e e-in ea x x-in a w₀ top h g s under slot next n f₀ k₀ l
     Looping (i - 1) d z p e e-in ea x x-in a w₀ top (f .row) (f .carried) (f .unit) (f .count) (k .row) (k .carried) (k .unit) (k .count) left w
 
 abbrev pub μ-loop : run-lts.MeasureT-loop
-μ-loop i d z p e e-in ea x x-in a w₀ top h g s under slot next n f₀ k₀ left₀ w f k left = left
+μ-loop i d z p e e-in ea x x-in a w₀ top h g s under slot next n f₀ k₀ left₀ w f k left = k .count
 
 -- the place behind which all numbers are read
 abbrev Sized : ℕ → Type 0

@@ -3,7 +3,7 @@ use Prim.Native.Nat.{ℕ}
 use native.Mathlib.Nat.{lt-irrefl}
 use native.Mathlib.Omega.{arith}
 use borrow.Author.Needs.{needs}
-use Rattle.sequences.proofs.RunWords.{run-ends, turn-numbers, turn-place, turn-divides, turn-loses, turn-follows, turns-on, turns-to, turns-out}
+use Rattle.sequences.proofs.RunWords.{run-ends, turn-numbers, turn-place, turn-divides, turn-loses, turn-follows, turns-fewer, turns-on, turns-to, turns-out}
 use Rattle.sequences.proofs.inverse.run.Reads as run
 use Rattle.sequences.proofs.inverse.+follow+invert+run.Lts-run as run-lts
 use Rattle.sequences.proofs.inverse.+follow+invert+run.Proof.Claims.{run-at}
@@ -114,7 +114,12 @@ loop-less t c =
     let sized = sizes t (outer .before .before .before .before .before .before .before .before .before .before .before .before) in
     let loop = outer .loop in
     let if1 = c .before .before .before .before .before .before .before .before .before .before .before .before .before .before .before .before .before .before .before .before .if1 in
-    omega (arith, turn-numbers sized (loop .inv) (if1 .taken))
+    let divide-row = c .before .before .before .before .before .before .before .before .before .before .before .before .before .before .before .before .divide-row in
+    let part-at2 = c .before .before .before .before .before .before .before .before .before .before .before .before .before .part-at2 in
+    let lose-product = c .before .before .before .before .before .before .before .before .lose-product in
+    let follow = c .before .before .before .before .follow in
+    let c = c .before .c in
+    turns-fewer sized (loop .inv) (if1 .taken) (divide-row .ensures) (part-at2 .ensures) (lose-product .ensures) (follow .result) (follow .ensures) _ (c .given .1)
 
 pub loop-again : (t : ℕ) → run-lts.Need-loop-again (cs t) (run-at t) run.Post Inv-loop μ-loop
 loop-again t c =
