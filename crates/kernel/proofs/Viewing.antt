@@ -3,6 +3,7 @@
 -- and-split, both-allowed, shape-some == two slots of allowed lengths; a coefficient has words;  forms-found == the form of two slots
 -- view-first, view-short, view-end == the number, test by test, with the values that the calls gave
 -- top-none, top-ends, top-is   == the leading coefficient of a slot: none, where it ends, and its words
+-- top-ready                    == a slot in form has the words that its degree word counts
 -- shown-none                   == a number: the empty part
 -- view-shape, ready-a, ready-b == no number: N and the degrees are in range, and a and b have the words that their degree words count
 -- shown-a, shown-b             == the promise then;  leading-plain == of numbers that went through a call
@@ -125,7 +126,7 @@ module _ (s : ℕ) (x : List ℤ) (c : ℕ) (ec : c ≡ degreeCount x) where
 -- ---- no number
 -- a slot in form has all the coefficients that its degree word counts
 module _ (p n : ℤ) (e x : List ℤ) (h : T (pOk p)) (l : T (lengthOk n e x)) (f : T (formOk p n e x)) where
-  top-ready : (s : ℕ) → s ≡ sizeOf n e → (0 < length x) × (degreeCount x * s < length x) × (length x ≤ 65536)
+  pub top-ready : (s : ℕ) → s ≡ sizeOf n e → (0 < length x) × (degreeCount x * s < length x) × (length x ≤ 65536)
   top-ready s es =
       let r = length-iff n e x .0 l in
       let few : degreeCount x ≤ r .count = omega (arith, held-few p n e h x f, room-count (sizeOf n e) (length x) (size-pos (degreesOf e) (num n)) r) in (

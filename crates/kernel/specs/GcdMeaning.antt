@@ -2,9 +2,10 @@
 -- needed. A and B are the polynomials that a and b hold, G the one that g holds afterwards.
 --
 -- polynomialIn      == the polynomial that a slot holds, over the ring of the tower
--- gcd-blind         == "Contents of answer slots, factor buffer and work store are not tested."
+-- gcd-blind         == "Contents of answer slots, factor buffer and work store are not tested.";  gcd-numbers == no test gives a number above 7
 -- gcd-tower         == where no number is given t is the words of exactly one tower, and p is in range;  gcd-ring == its topmost ring is computed in
--- gcd-kind          == Done or a factor is said;  gcd-done, gcd-factor == each precisely where the sequence gives a GCD, shows a factor
+-- gcd-kind          == Done or a factor is said;  gcd-done, gcd-factor == each precisely where the sequence gives a GCD, shows a factor;
+--                      gcd-level == its level is at most 4
 -- made-below, gcd-fits == the coefficients that a GCD counts are all, and the answer's slot has room for them
 -- GcdHeld           == demand 3's description of a GCD
 -- GcdLeft, gcd-left == what is left with a GCD;  gcd-held == what g holds then is so described;  gcd-only == nothing else is
@@ -38,11 +39,12 @@ use Rattle.kernel.specs.Answered.{towerIn, levelOf}
 use Rattle.kernel.specs.Calls.{coefficientsOf, formOk}
 use Rattle.kernel.specs.DivisionAnswers.{Monic}
 use Rattle.kernel.specs.GcdAnswers.{GcdMeans, gcd-says, gcdAnswer, gcd-words, gcd-sequence, gcd-ends, gcd-by}
-use Rattle.kernel.specs.Gcds.{gcdRoom, gcdNeeded, gcdNumber, GcdWords, gcdBy, gcd}
+use Rattle.kernel.specs.Gcds.{gcdRoom, gcdNeeded, gcdTable, gcdNumber, GcdWords, gcdBy, gcd}
 use Rattle.kernel.specs.InverseAnswers.{ElementOf}
 use Rattle.kernel.specs.Meaning.{TowerHeld, ones}
-use Rattle.kernel.specs.Refusals.{done, factor, refused}
-use Rattle.kernel.specs.SequenceLaws.{said-done, said-factor, said-kind, answered-old, RunsSame, answer-same, runs-same, FactorLies, factor-lies, buffer-same}
+use Rattle.kernel.specs.Refusals.{done, factor, refused, first-up-to}
+use Rattle.kernel.specs.SequenceLaws.{said-done, said-factor, said-kind, answered-old, RunsSame, answer-same, runs-same}
+use Rattle.kernel.specs.SequenceLaws.{level-four, FactorLies, factor-lies, buffer-same}
 use Rattle.kernel.specs.SlotLaws.{tower-is, ring-held, Written, held-below, slot-written, filled-holds, Cleared, cleared-words, cleared-same, filled-same}
 use Rattle.kernel.specs.SlotMeaning.{length-iff, form-iff}
 use Rattle.kernel.specs.Slots.{degreeCount, polynomialOf, coefficientsIn, topRing, filled, cleared, Changed}
@@ -56,6 +58,11 @@ pub gcd-blind : (p n : ℤ) (e t a b g g′ f f′ v v′ : List ℤ) → length
     → gcdNumber p n e t a b g f v ≡ gcdNumber p n e t a b g′ f′ v′
 unfolding gcdNumber
 gcd-blind p n e t a b g g′ f f′ v v′ h k l = rw (h, k, l)
+
+-- no test gives a number above 7
+pub gcd-numbers : (p n : ℤ) (e t a b g f v : List ℤ) → gcdNumber p n e t a b g f v ≤ 7
+unfolding gcdNumber
+gcd-numbers p n e t a b g f v = first-up-to 7 (gcdTable p n e t a b g f v) tt
 
 -- "Numbers 1 to 10 leave every lent word as found."
 pub gcd-refused : (p n : ℤ) (e t a b g f v : List ℤ) (j : ℕ) → gcdNumber p n e t a b g f v ≡ suc j
@@ -142,6 +149,10 @@ module _ (p n : ℤ) (e t a b g f v : List ℤ) (h : gcdNumber p n e t a b g f v
   pub gcd-factor : (l : ℕ)
       → (gcd p n e t a b g f v .said ≡ factor l) ↔ ((x : Shown (num p) (degreesOf e) (num n)) × (found ≡ shown x) × (level-of (num p) (degreesOf e) (num n) x ≡ l))
   gcd-factor = rw run-is (said-factor by _ (gcd-by p n e t a b g f v gcd-modulus) found ends)
+
+  -- its level is at most 4
+  pub gcd-level : (l : ℕ) → gcd p n e t a b g f v .said ≡ factor l → l ≤ 4
+  gcd-level l q = let x = gcd-factor l .0 q in subst (λ k. k ≤ 4) (x .2) (level-four p n e (gcd-tower .range) (x .0))
 
   -- ---- what is left
   keeps : Good (levelOf p n e t gcd-modulus)

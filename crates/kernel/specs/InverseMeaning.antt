@@ -1,16 +1,17 @@
 -- What an inverse leaves where no number is given: the inverse in r, or a factor in the factor buffer, and a work store that is cleared as far as it was needed.
 -- C is the element that c holds.
 --
--- inverse-blind        == "Contents of answer slots, factor buffer and work store are not tested."
+-- inverse-blind        == "Contents of answer slots, factor buffer and work store are not tested.";  inverse-numbers == no test gives a number above 9
 -- inverse-tower        == where no number is given t is the words of exactly one tower, and p is in range;  inverse-ring == its topmost ring is computed in
 -- inverse-element      == c is the words of C, which is not zero
--- inverse-kind         == Done or a factor is said;  inverse-done, inverse-factor == each precisely where the sequence gives an inverse, shows a factor
+-- inverse-kind         == Done or a factor is said;  inverse-done, inverse-factor == each precisely where the sequence gives an inverse, shows a factor;
+--                         inverse-level == its level is at most 4
 -- InverseLeft, inverse-left   == what is left with an inverse: u · C = 1;  InverseShown, inverse-shown == what is left with a factor: demand 3's
 -- inverse-refused      == with a number every lent word is as found
 -- inverse-free         == a modulus and tower without factors get the inverse of every element that is not zero
 -- InverseSame          == what two runs share whose r, factor buffers and work stores have the same lengths;  inverse-two-runs == that they do
-use Prim.Native.Nat.{ℕ, suc, _<_}
-use mathlib.Core.Path.{_≡_, refl, sym, ap, _∙_}
+use Prim.Native.Nat.{ℕ, suc, _<_, _≤_}
+use mathlib.Core.Path.{_≡_, refl, sym, ap, _∙_, subst}
 use mathlib.Core.Logic.{_⊎_, _↔_}
 use mathlib.Core.List.{List}
 use lib.IntN.{ℤ, pos}
@@ -29,10 +30,11 @@ use Rattle.euclid.specs.Towers.{Shown, Value, value-of, level-of, good, Free, i
 use Rattle.kernel.specs.Answered.{towerIn, levelOf}
 use Rattle.kernel.specs.InverseAnswers.{ElementOf, elementWords, element-is, InverseHeld, inverse-says, inverseAnswer, inverse-sequence}
 use Rattle.kernel.specs.InverseAnswers.{inverse-words, inverse-not-zero, inverse-ends, inverse-by}
-use Rattle.kernel.specs.Inverses.{elementOf, inverseNumber, InverseWords, inverseBy, inverse}
+use Rattle.kernel.specs.Inverses.{elementOf, inverseTable, inverseNumber, InverseWords, inverseBy, inverse}
 use Rattle.kernel.specs.Meaning.{TowerHeld}
-use Rattle.kernel.specs.Refusals.{done, factor, refused}
-use Rattle.kernel.specs.SequenceLaws.{said-done, said-factor, said-kind, answered-old, RunsSame, answer-same, runs-same, FactorLies, factor-lies, buffer-same}
+use Rattle.kernel.specs.Refusals.{done, factor, refused, first-up-to}
+use Rattle.kernel.specs.SequenceLaws.{said-done, said-factor, said-kind, answered-old, RunsSame, answer-same, runs-same}
+use Rattle.kernel.specs.SequenceLaws.{level-four, FactorLies, factor-lies, buffer-same}
 use Rattle.kernel.specs.SlotLaws.{tower-is, ring-held, Cleared, cleared-words, cleared-same}
 use Rattle.kernel.specs.Slots.{topRing, cleared, Changed}
 
@@ -41,6 +43,11 @@ pub inverse-blind : (p n : ℤ) (e t c r r′ f f′ v v′ : List ℤ) → leng
     → inverseNumber p n e t c r f v ≡ inverseNumber p n e t c r′ f′ v′
 unfolding inverseNumber
 inverse-blind p n e t c r r′ f f′ v v′ h k l = rw (h, k, l)
+
+-- no test gives a number above 9
+pub inverse-numbers : (p n : ℤ) (e t c r f v : List ℤ) → inverseNumber p n e t c r f v ≤ 9
+unfolding inverseNumber
+inverse-numbers p n e t c r f v = first-up-to 9 (inverseTable p n e t c r f v) tt
 
 -- "Numbers 1 to 10 leave every lent word as found."
 pub inverse-refused : (p n : ℤ) (e t c r f v : List ℤ) (j : ℕ) → inverseNumber p n e t c r f v ≡ suc j
@@ -101,6 +108,10 @@ module _ (p n : ℤ) (e t c r f v : List ℤ) (h : inverseNumber p n e t c r f v
   pub inverse-factor : (l : ℕ)
       → (inverse p n e t c r f v .said ≡ factor l) ↔ ((x : Shown (num p) (degreesOf e) (num n)) × (found ≡ shown x) × (level-of (num p) (degreesOf e) (num n) x ≡ l))
   inverse-factor = rw run-is (said-factor by _ (inverse-by p n e t c r f v inverse-modulus) found ends)
+
+  -- its level is at most 4
+  pub inverse-level : (l : ℕ) → inverse p n e t c r f v .said ≡ factor l → l ≤ 4
+  inverse-level l q = let x = inverse-factor l .0 q in subst (λ k. k ≤ 4) (x .2) (level-four p n e (inverse-tower .range) (x .0))
 
   -- ---- what is left
   keeps : Good (levelOf p n e t inverse-modulus)

@@ -30,10 +30,3 @@ pub mod InverseAnswers
 pub mod InverseMeaning
 pub mod GcdAnswers
 pub mod GcdMeaning
-pub mod Demands
-pub mod GcdZeros
-pub mod FigureWords
-pub mod FigureChecks
-pub mod FigurePolynomials
-pub mod FigureSequences
-pub mod Figures

@@ -16,7 +16,7 @@ use Rattle.kernel.specs.Answers.{said, said-inj}
 use lib.Dec.{T}
 use Rattle.kernel.specs.Refusals.{Table, ordered}
 use Rattle.kernel.specs.Calls.{towerTable, checkTower, slotTable, checkSlot, workTable, workSizes, fractionTable, fraction}
-use Rattle.kernel.specs.Views.{viewTable, leadingView}
+use Rattle.kernel.specs.Views.{viewTable, leadingPart, partWords}
 use Rattle.kernel.specs.Sums.{sumTable, sum}
 use Rattle.kernel.specs.Products.{productTable, product}
 use Rattle.kernel.specs.Divisions.{divisionTable, division}
@@ -59,9 +59,9 @@ fraction-determined p n e r s h k =
     let residue = h .residue ∙ sym (k .residue) in
     λ i. record { answer = answer i; residue = residue i }
 
--- the leading view: the words of the part that is shown
+-- the leading view: the words of the part that is shown, which tells the slot, where the part starts and how many words it has
 pub record LeadingShown (p n : ℤ) (e t a b r : List ℤ) : Type 0 where
-  pub words : r ≡ leadingView p n e t a b
+  pub words : r ≡ partWords (leadingPart p n e t a b) a b
 
 pub leading-determined : (p n : ℤ) (e t a b r s : List ℤ) → LeadingShown p n e t a b r → LeadingShown p n e t a b s → r ≡ s
 leading-determined p n e t a b r s h k = h .words ∙ sym (k .words)

@@ -8,6 +8,7 @@
 -- refused-means    == what a call refuses tells the number, where the sequence refuses nothing
 -- RunsSame         == what two runs share;  AnswerSame == what they leave by one answer of the sequence
 -- answer-same, runs-same == from the latter the former
+-- level-four       == the level of what is shown is at most 4
 -- FactorLies       == a factor of the tower lies in the factor buffer;  factor-lies == so does what is rightly shown;
 --                     buffer-same == of the buffer before only the length matters
 use Prim.Native.Nat.{ℕ, zero, suc, _-_, _+_, _<_, _≤_}
@@ -25,8 +26,8 @@ use Rattle.tower.specs.Form.{copies}
 use Rattle.tower.specs.Limits.{pOk, p-positive, degreesOf}
 use Rattle.tower.specs.Writing.{size}
 use Rattle.euclid.specs.Answer.{Answer, done as done-with, shown, long}
-use Rattle.euclid.specs.Shown.{shownWords, shown-long, shown-fits, ValueHeld, shown-held}
-use Rattle.euclid.specs.Towers.{Shown, Value, value-of, value-level, Right}
+use Rattle.euclid.specs.Shown.{shownWords, shown-long, shown-low, shown-fits, ValueHeld, shown-held}
+use Rattle.euclid.specs.Towers.{Shown, Value, value-of, value-level, level-of, Right}
 use Rattle.kernel.specs.Answered.{answered, factorBuffer, towerIn}
 use Rattle.kernel.specs.Calls.{sizeOf}
 use Rattle.kernel.specs.Meaning.{InRange, ones}
@@ -181,6 +182,10 @@ module _ {W : Type 0} (answerIn bufferIn workIn : W → List ℤ) (needed : ℕ)
         buffer-kept = buffer;
         work = λ d. absurd (⊎-elim (λ x. done-refused (suc k) (sym x)) (λ x. factor-refused (x .0) (suc k) (sym (x .1))) d);
       }
+
+-- the level of what is shown is one of a tower's, and a tower has at most 4
+pub level-four : (p n : ℤ) (e : List ℤ) (r : InRange p n e) (x : Shown (num p) (degreesOf e) (num n)) → level-of (num p) (degreesOf e) (num n) x ≤ 4
+level-four p n e r x = omega (arith, shown-low (num p) (p-positive p (r .modulus)) (degreesOf e) (num n) x, r .shape .levels .2)
 
 -- ---- "A shown factor at level j lies in the first S_j words of the factor buffer, written as an element of R_j (level 0: one word); its other words are 0."
 module _ (p n : ℤ) (e t : List ℤ) (h : T (pOk p)) where

@@ -7,6 +7,7 @@
 -- part-b, part-a, part-none == which part it is
 -- Leading               == where the part starts and ends and what its words are;  view-of-b, view-of-a == which slot it is of
 -- SomeNumber, BothZero  == a number applies; none, and both are zero;  view-empty == the part is empty precisely then
+-- view-some             == a part that is not empty comes without a number;  view-long == the words of the part are as many as it counts
 use Prim.Native.Nat.{ℕ, zero, suc, _+_, _-_, _*_, _<_, _≤_}
 use native.Mathlib.Nat.{lt-irrefl, suc-mul, mul-le-mul-right}
 use native.Mathlib.Omega.{arith}
@@ -224,3 +225,30 @@ module _ (p n : ℤ) (e t a b : List ℤ) where
           let zb : degreeCount b ≤ 0 = held-low p n e m b (g .form-b) 0 (x .zero-b) in
           let z : degreeCount a ≡ 0 = omega arith in
           ap (λ w. partWords w a b) (part-a h (omega arith) ∙ ap (topPart false (sizeOf n e)) z)
+
+  pub view-some : ¬ (leadingView p n e t a b ≡ []) → viewNumber p n e t a b ≡ 0
+  view-some some = go (viewNumber p n e t a b) refl
+    where
+      go : (k : ℕ) → viewNumber p n e t a b ≡ k → viewNumber p n e t a b ≡ 0
+      go zero h = h
+      go (suc k) h = absurd (some (part-none k h))
+
+  -- ---- the words of the part are as many as it counts
+  pub view-long : length (leadingView p n e t a b) ≡ leadingPart p n e t a b .count
+  view-long = which (viewNumber p n e t a b) refl
+    where
+      counted : (second : Bool) (h : T (pOk p)) → Leading second h → length (leadingView p n e t a b) ≡ leadingPart p n e t a b .count
+      counted second h l = ap length (l .words) ∙ write-long (num p) (degreesOf e) (num n) _ ∙ sym (l .count)
+
+      at-zero : (h : viewNumber p n e t a b ≡ 0) → (degreeCount b ≤ degreeCount a) ⊎ (degreeCount a < degreeCount b) → (degreeCount a ≤ 0) ⊎ (0 < degreeCount a)
+          → length (leadingView p n e t a b) ≡ leadingPart p n e t a b .count
+      at-zero h (inl l) (inl z) =
+          let none : degreeCount a ≡ 0 = omega arith in
+          subst (λ w. length (partWords w a b) ≡ w .count) (sym (part-a h l ∙ ap (topPart false (sizeOf n e)) none)) refl
+      at-zero h (inl l) (inr z) = counted false _ (view-of-a (view-says 0 h) l z)
+      at-zero h (inr l) z = counted true _ (view-of-b (view-says 0 h) l)
+
+      which : (k : ℕ) → viewNumber p n e t a b ≡ k → length (leadingView p n e t a b) ≡ leadingPart p n e t a b .count
+      which zero h = at-zero h (le-or-lt (degreeCount b) (degreeCount a)) (le-or-lt (degreeCount a) 0)
+      which (suc k) h =
+          ap length (part-none k h) ∙ sym (ap (λ j. partBy j (higherPart (ltb (degreeCount a) (degreeCount b)) (sizeOf n e) (degreeCount a) (degreeCount b)) .count) h)

@@ -3,7 +3,8 @@
 -- WorkDegree     == a degree from -1 to 255;  WorkMeans == for each number what it says; a number that is not used says ⊥
 -- work-says      == a number that is given comes under its condition;  work-given == and under its condition it is given
 -- work-answers   == the same of what the call says;  work-gives == where no number is given it gives the formulas' three
-use Prim.Native.Nat.{ℕ, zero, suc}
+-- work-numbers   == no number above 5 is given
+use Prim.Native.Nat.{ℕ, zero, suc, _≤_}
 use mathlib.Core.Path.{_≡_, refl, sym, ap, _∙_, subst}
 use mathlib.Core.Bool.{_&&_}
 use mathlib.Core.Logic.{_⊎_, inl, inr, _↔_}
@@ -16,7 +17,7 @@ use Rattle.residue.specs.Word.{num}
 use Rattle.tower.specs.Writing.{countOf}
 use Rattle.tower.specs.Limits.{levelsOk, degreesOk, degreesOf, sizeOk, workDegree, Between, work-degree-range}
 use Rattle.tower.specs.Work.{productWork, inverseWork, gcdWork}
-use Rattle.kernel.specs.Refusals.{done, refusal, refusal-inj, Numbered, passed-of, first-of, Applies, first-applies, first-is}
+use Rattle.kernel.specs.Refusals.{done, refusal, refusal-inj, first-up-to, Numbered, passed-of, first-of, Applies, first-applies, first-is}
 use Rattle.kernel.specs.Meaning.{DegreesIn, shape-in, shape-tests, shape-out}
 use Rattle.kernel.specs.Calls.{Sizes, degreesRow, workTable, workNumber, sizesBy, workSizes}
 
@@ -105,3 +106,8 @@ module _ (n : ℤ) (e : List ℤ) (a b : ℤ) where
         gcd = gcdWork (degreesOf e) (num n) (countOf a) (countOf b);
       }
   work-gives h = ap by (work-given 0 h)
+
+  -- no other number is given
+  pub work-numbers : workNumber n e a b ≤ 5
+  unfolding workNumber
+  work-numbers = first-up-to 5 (workTable n e a b) tt

@@ -21,41 +21,41 @@ use Rattle.residue.specs.Word.{num}
 use Rattle.tower.specs.Levels.{group, ring}
 use Rattle.tower.specs.Limits.{pOk, p-positive, degreesOf}
 use Rattle.tower.specs.Unique.{Exactly, Holding, writing, one-writing as written-once}
-use Rattle.tower.specs.Work.{gcdWork}
+use Rattle.tower.specs.Work.{inverseWork, gcdWork}
 use Rattle.tower.specs.Writing.{size}
 use Rattle.euclid.specs.Answer.{Answer, done as done-with, shown, long}
 use Rattle.euclid.specs.Gcd.{Made, val, gcd as gcd-of}
 use Rattle.euclid.specs.Shown.{shownWords, ValueHeld}
 use Rattle.euclid.specs.Towers.{Shown, Value, value-of, value-level, level-of, inv, level, Free}
 use Rattle.kernel.specs.Answered.{factorBuffer, towerIn}
 use Rattle.kernel.specs.Calls.{coefficientsOf, checkTower, towerNumber, checkSlot, slotNumber, workSizes, workNumber, fraction, fractionNumber}
 use Rattle.kernel.specs.DivisionAnswers.{Monic, DivisionMeans, division-says, division-given, division-answers}
 use Rattle.kernel.specs.DivisionMeaning.{division-tower, divisor-below, divisor-monic, division-meaning, remainder-below, only-quotient, only-remainder}
 use Rattle.kernel.specs.Divisions.{divisorDegree, divisionNumber, division}
 use Rattle.kernel.specs.FractionMeaning.{FractionMeans, fraction-answers, fraction-says, fraction-given}
 use Rattle.kernel.specs.GcdAnswers.{GcdMeans, gcd-says, gcd-given, gcd-sequence, gcd-ends, gcd-unrefused, gcd-answers, gcd-never-long, gcd-passes}
 use Rattle.kernel.specs.GcdMeaning.{GcdHeld, gcd-tower, gcd-modulus, gcd-kind, gcd-done, gcd-factor, gcd-left, gcd-held, gcd-shown, gcd-free}
-use Rattle.kernel.specs.Gcds.{gcdRoom, gcdNumber, gcdBy, gcd}
+use Rattle.kernel.specs.Gcds.{gcdRoom, gcdNeeded, gcdNumber, gcdBy, gcd}
 use Rattle.kernel.specs.InverseAnswers.{ElementOf, ElementLong, elementWords, zeroOf, element-is, InverseMeans, inverse-says, inverse-given}
 use Rattle.kernel.specs.InverseAnswers.{inverse-sequence, inverse-ends, inverse-unrefused, inverse-answers, inverse-never-long}
 use Rattle.kernel.specs.InverseMeaning.{inverse-tower, inverse-kind, inverse-factor, inverse-shown}
 use Rattle.kernel.specs.Inverses.{inverseNumber, inverseBy, inverse}
 use Rattle.kernel.specs.Meaning.{InRange, TowerOf, wordsOf, TowerHeld, TowerMeans, tower-says, tower-given, tower-answers, tower-passes}
 use Rattle.kernel.specs.ProductAnswers.{ProductMeans, product-says, product-given, product-answers}
 use Rattle.kernel.specs.ProductMeaning.{product-tower, product-coefficients}
 use Rattle.kernel.specs.Products.{productNumber, product}
 use Rattle.kernel.specs.Refusals.{Said, done, factor, refused, refusal}
 use Rattle.kernel.specs.SequenceLaws.{done-refused, factor-refused, answered-kept, answered-passed}
 use Rattle.kernel.specs.SlotAnswers.{SlotLong, Allowed}
 use Rattle.kernel.specs.SlotLaws.{tower-is, Written, changed-zero}
 use Rattle.kernel.specs.SlotMeaning.{PolynomialOf, slotOf, SlotMeans, slot-says, slot-given, slot-answers}
-use Rattle.kernel.specs.Slots.{polynomialOf, coefficientsIn, changedBy}
+use Rattle.kernel.specs.Slots.{polynomialOf, coefficientsIn, cleared, changedBy}
 use Rattle.kernel.specs.SumAnswers.{SumMeans, sum-says, sum-given, sum-answers}
 use Rattle.kernel.specs.SumMeaning.{sum-modulus, sum-coefficients}
 use Rattle.kernel.specs.Sums.{sumNumber, sum}
 use Rattle.kernel.specs.ViewMeaning.{ViewMeans, view-says, view-given, part-none}
 use Rattle.kernel.specs.Views.{viewNumber, leadingView}
 use Rattle.kernel.specs.WorkMeaning.{WorkMeans, work-says, work-given, work-answers}
 
 -- ==== 1
 -- "Every call returns, on any modulus, tower, slot and work store, and nobody has looked at them first.": the contracts ask for nothing, and the check proves that
@@ -125,9 +125,14 @@ first-number = record {
   };
 }
 
--- "and then no lent word has changed, except that number 11 clears its work words": so inverseBy and gcdBy have it, but number 11 is never given. The other calls are
+-- "and then no lent word has changed, except that number 11 clears its work words": so the definitions have it, but number 11 is never given. The other calls are
 -- lent words to read only
 pub record WordsKept : Type 0 where
+  pub inverse-clears : (p n : ℤ) (e t r f v : List ℤ) (h : T (pOk p))
+      → inverseBy p n e t r f v h long
+      ≡ record { said = refused 11; words = record { inverse = r; factor = f; work = cleared (inverseWork (degreesOf e) (num n)) v } }
+  pub gcd-clears : (p n : ℤ) (e t a b g f v : List ℤ) (h : T (pOk p))
+      → gcdBy p n e t a b g f v h long ≡ record { said = refused 11; words = record { gcd = g; factor = f; work = cleared (gcdNeeded n e a b) v } }
   pub inverse-eleven : (p n : ℤ) (e t c r f v : List ℤ) → ¬ (inverse p n e t c r f v .said ≡ refused 11)
   pub gcd-eleven : (p n : ℤ) (e t a b g f v : List ℤ) → ¬ (gcd p n e t a b g f v .said ≡ refused 11)
   pub sum : (neg : Bool) (p n : ℤ) (e t a b : List ℤ) (j : ℕ) → sum neg p n e t a b .said ≡ refused j → sum neg p n e t a b .words ≡ a
@@ -135,9 +140,9 @@ pub record WordsKept : Type 0 where
       → product p n e t a b c v .words ≡ record { product = c; work = v }
   pub division : (p n : ℤ) (e t a b q v : List ℤ) (j : ℕ) → division p n e t a b q v .said ≡ refused j
       → division p n e t a b q v .words ≡ record { remainder = a; quotient = q; work = v }
-  pub inverse : (p n : ℤ) (e t c r f v : List ℤ) (j : ℕ) → inverse p n e t c r f v .said ≡ refused j
+  pub inverse : (p n : ℤ) (e t c r f v : List ℤ) (j : ℕ) → j ≤ 10 → inverse p n e t c r f v .said ≡ refused j
       → inverse p n e t c r f v .words ≡ record { inverse = r; factor = f; work = v }
-  pub gcd : (p n : ℤ) (e t a b g f v : List ℤ) (j : ℕ) → gcd p n e t a b g f v .said ≡ refused j
+  pub gcd : (p n : ℤ) (e t a b g f v : List ℤ) (j : ℕ) → j ≤ 10 → gcd p n e t a b g f v .said ≡ refused j
       → gcd p n e t a b g f v .words ≡ record { gcd = g; factor = f; work = v }
 
 changed-kept : {A : Type 0} (k : ℕ) (new old : A) (j : ℕ) → changedBy k new old .said ≡ refused j → changedBy k new old .words ≡ old
@@ -146,13 +151,15 @@ changed-kept (suc k) new old j h = refl
 
 pub words-kept : WordsKept
 words-kept = record {
+  inverse-clears = λ p n e t r f v h. refl;
+  gcd-clears = λ p n e t a b g f v h. refl;
   inverse-eleven = inverse-never-long;
   gcd-eleven = gcd-never-long;
   sum = λ neg p n e t a b. changed-kept (sumNumber p n e t a b) _ a;
   product = λ p n e t a b c v. changed-kept (productNumber p n e t a b c v) _ _;
   division = λ p n e t a b q v. changed-kept (divisionNumber p n e t a b q v) _ _;
-  inverse = λ p n e t c r f v. answered-kept _ _ (inverseNumber p n e t c r f v) (inverse-unrefused p n e t c r f v);
-  gcd = λ p n e t a b g f v. answered-kept _ _ (gcdNumber p n e t a b g f v) (gcd-unrefused p n e t a b g f v);
+  inverse = λ p n e t c r f v j l. answered-kept _ _ (inverseNumber p n e t c r f v) (inverse-unrefused p n e t c r f v) j;
+  gcd = λ p n e t a b g f v j l. answered-kept _ _ (gcdNumber p n e t a b g f v) (gcd-unrefused p n e t a b g f v) j;
 }
 
 -- "The leading view shows an empty part in place of a number."

@@ -26,21 +26,21 @@ use Rattle.tower.specs.Form.{zeroWords, formOver, inForm, oneWords, modulusOver
 use Rattle.tower.specs.Limits.{slotLength}
 use Rattle.tower.specs.Unique.{slotCoding}
 use Rattle.tower.specs.Work.{productWork, inverseWork, gcdWork}
 use Rattle.kernel.specs.Refusals.{done, refused, refusal}
 use Rattle.kernel.specs.Calls.{sizeOf, towerNumber, checkTower, fractionNumber, fractionResidue, fraction}
 use Rattle.kernel.specs.Slots.{degreeCount, cleared}
 use Rattle.kernel.specs.Products.{productNumber, productWords}
 use Rattle.kernel.specs.Inverses.{inverseNumber, inverseWords}
 use Rattle.kernel.specs.Gcds.{gcdNumber, gcdNeeded, gcdWords, gcd}
-use Rattle.kernel.specs.GcdZeros.{zeroSlotOf, MadeMonic, ShowsIt, gcd-both-zero, gcd-a-zero, gcd-b-zero}
+use Rattle.demands.specs.GcdZeros.{zeroSlotOf, MadeMonic, ShowsIt, gcd-both-zero, gcd-a-zero, gcd-b-zero}
 use Rattle.kernel.specs.Meaning.{tower-says}
 use Rattle.kernel.specs.SlotMeaning.{PolynomialOf, slot-passes, slot-given}
-use Rattle.kernel.specs.FigureWords.{degrees, plain, words, left, met, kept, residue, no-residue, c-work, r-f-work, g-f-work}
-use Rattle.kernel.specs.FigureWords.{d64, powers, zeroSlot, check64, slot64, times5, inverse6, gcd7, none-t7, x-t7, z+3-t7, z+6-t7, inverse-t7, gcd-t7}
-use Rattle.kernel.specs.FigureWords.{inverse-t4, times-t4}
-use Rattle.kernel.specs.FigureChecks.{Checks, checks as checks-hold}
-use Rattle.kernel.specs.FigurePolynomials.{Polynomials, polynomials as polynomials-hold}
-use Rattle.kernel.specs.FigureSequences.{Sequences, sequences as sequences-hold}
+use Rattle.demands.specs.FigureWords.{degrees, plain, words, left, met, kept, residue, no-residue, c-work, r-f-work, g-f-work}
+use Rattle.demands.specs.FigureWords.{d64, powers, zeroSlot, check64, slot64, times5, inverse6, gcd7, none-t7, x-t7, z+3-t7, z+6-t7, inverse-t7, gcd-t7}
+use Rattle.demands.specs.FigureWords.{inverse-t4, times-t4}
+use Rattle.demands.specs.FigureChecks.{Checks, checks as checks-hold}
+use Rattle.demands.specs.FigurePolynomials.{Polynomials, polynomials as polynomials-hold}
+use Rattle.demands.specs.FigureSequences.{Sequences, sequences as sequences-hold}
 
 pub record Figures : Type 0 where
   -- C1 "p = 1 gives 1; 2 and 2,147,483,647 pass; 2,147,483,648 gives 1."

@@ -11,10 +11,10 @@ use Rattle.tower.specs.Writing.{size, read, reads, write, writes, towerOf}
 use Rattle.tower.specs.Form.{zeroWords, formOver, inForm, oneWords, modulusOver, towerForm}
 use Rattle.tower.specs.Limits.{slotLength}
 use Rattle.tower.specs.Work.{productWork}
 use Rattle.kernel.specs.Sums.{sumNumber, sumWords}
 use Rattle.kernel.specs.Products.{productNumber, productWords}
 use Rattle.kernel.specs.Divisions.{divisionNumber, remainderWords, quotientWords}
-use Rattle.kernel.specs.FigureWords.{plain, words, left, kept, c-work, a-q-work, plus6, minus6, times6, by6, a7, b7, minus7, by7}
+use Rattle.demands.specs.FigureWords.{plain, words, left, kept, c-work, a-q-work, plus6, minus6, times6, by6, a7, b7, minus7, by7}
 
 pub record Polynomials : Type 0 where
   -- sums and differences: modulo 6 the leading coefficients cancel; over T7 a - a is the zero slot; b may stand in a longer slot; no room for x in one coefficient

@@ -10,9 +10,9 @@ use Rattle.tower.specs.Writing.{size}
 use Rattle.tower.specs.Form.{zeroWords, formOver, inForm, oneWords, modulusOver, towerForm}
 use Rattle.tower.specs.Limits.{slotLength}
 use Rattle.tower.specs.Work.{productWork, inverseWork, gcdWork}
 use Rattle.kernel.specs.Refusals.{done, refused}
 use Rattle.kernel.specs.Calls.{sizeOf, towerNumber, checkTower, slotNumber, workNumber, workSizes, fractionNumber, fractionResidue, fraction}
-use Rattle.kernel.specs.FigureWords.{degrees, plain, sizes, no-sizes, residue, no-residue, t7-words, a7, b7, check7, slot7}
+use Rattle.demands.specs.FigureWords.{degrees, plain, sizes, no-sizes, residue, no-residue, t7-words, a7, b7, check7, slot7}
 
 pub record Checks : Type 0 where
   -- "For d = (3, 2): S = 1, 4, 9; M(2) = 38, I(2) = 90." and for degrees 2 and 1: 28 + 19 + 18 + 90

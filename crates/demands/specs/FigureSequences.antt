@@ -16,10 +16,10 @@ use Rattle.tower.specs.Writing.{size, read, reads, write, writes, towerOf}
 use Rattle.tower.specs.Form.{zeroWords, formOver, inForm, oneWords, modulusOver, towerForm}
 use Rattle.tower.specs.Limits.{slotLength}
 use Rattle.tower.specs.Work.{inverseWork, gcdWork}
 use Rattle.kernel.specs.Inverses.{inverseNumber, inverseWords}
 use Rattle.kernel.specs.Gcds.{gcdNumber, gcdWords}
-use Rattle.kernel.specs.FigureWords.{plain, words, left, met, kept, r-f-work, g-f-work, gcd7, a7, b7, none-t7, x-t7, z+3-t7, z+4-t7}
-use Rattle.kernel.specs.FigureWords.{inverse-t7, gcd-t7, inverse-t62, inverse-t72}
+use Rattle.demands.specs.FigureWords.{plain, words, left, met, kept, r-f-work, g-f-work, gcd7, a7, b7, none-t7, x-t7, z+3-t7, z+4-t7}
+use Rattle.demands.specs.FigureWords.{inverse-t7, gcd-t7, inverse-t62, inverse-t72}
 
 pub record Sequences : Type 0 where
   -- the calculator's case: the GCD of x² + 5 and x + 6z into three coefficients, 10 + 7 + 6 + 20 of 45 work words cleared
