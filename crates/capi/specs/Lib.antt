@@ -1,1 +1,4 @@
 pub mod Codes
+pub mod NumberCodes
+pub mod SequenceCodes
+pub mod ViewCodes
