@@ -6,14 +6,12 @@
 
 #include "calls.h"
 
-size_t mausvioline_product(int64_t p, int64_t n, const int64_t degrees[4], const int64_t *tower, size_t tower_len,
-                            const int64_t *a, size_t a_len, const int64_t *b, size_t b_len, int64_t *c, size_t c_len,
-                            int64_t *work, size_t work_len);
+product_call mausvioline_product;
+division_call mausvioline_division;
+inverse_call mausvioline_inverse;
+gcd_call mausvioline_gcd;
 
-size_t mausvioline_division(int64_t p, int64_t n, const int64_t degrees[4], const int64_t *tower, size_t tower_len,
-                             int64_t *a, size_t a_len, const int64_t *b, size_t b_len, int64_t *q, size_t q_len,
-                             int64_t *work, size_t work_len);
-
-static const struct contender kernel = {"kernel", mausvioline_product, mausvioline_division};
+static const struct contender kernel = {"kernel", mausvioline_product, mausvioline_division, mausvioline_inverse,
+                                        mausvioline_gcd};
 
 #endif

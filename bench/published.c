@@ -1,16 +1,14 @@
-/* Baseline: product and division by the algorithm of document 001 as published, IP_MUL and IP_REM.
+/* Baseline: product and division by the algorithm of document 001 as published, IP_MUL and IP_REM, and the two small
+   ones that inverse and GCD use, IP_SCAL_MUL and IP_LIN.
 
    A coefficient of the result is a sum of products of coefficients (the Cauchy product). Each product is made
    one level down into T2, whole, and added to T1; T1 is reduced modulo m_N once, at the end of the sum.
    At level 0 the sum of products is kept below p² and taken modulo p once.
 
-   What 001 misprints is repaired: a level's stride, which is S_(r-1), the direction of copies in lines 11 and 21, and
-   the loop of IP_REM, which counts i. Words above a degree are left in form, as document 01 asks. Nothing is checked. */
-#include "calls.h"
-#include "tower.h"
-
-static void multiply(const struct tower *t, int level, const int64_t *a, const int64_t *b, int64_t *c, int64_t *work);
-static void divide(const struct tower *t, int level, int64_t *a, const int64_t *b, int64_t *work);
+   What 001 misprints is repaired: a level's stride, which is S_(r-1), the direction of copies in lines 11 and 21, the
+   loop of IP_REM, which counts i, and IP_LIN, which gives c - a·b. Words above a degree are left in form, as document
+   01 asks. Nothing is checked. */
+#include "published.h"
 
 /* x + y modulo p, both below p, or one of them p. */
 static inline int64_t sum_of_numbers(const struct tower *t, int64_t x, int64_t y)
@@ -130,9 +128,8 @@ static void divide_numbers(const struct tower *t, int64_t *a, const int64_t *b)
 /* T1 modulo m_level, put into an element of that level. */
 static void put_reduced(const struct tower *t, int level, int64_t *t1, int64_t *element, int64_t *work)
 {
-    divide(t, level - 1, t1, t->polynomial[level], work);
-    copy_words(element, t1, polynomial_words(t, level - 1, t1[0]));
-    set_zeros(t, level - 1, element, t1[0] + 1, t->degree[level]);
+    published_divide(t, level - 1, t1, t->polynomial[level], work);
+    put_element(t, level, t1, element);
 }
 
 /* IP_MUL: c := a·b, polynomials over that level. Only the coefficients of c up to deg a + deg b are written. */
@@ -161,9 +158,7 @@ static void multiply(const struct tower *t, int level, const int64_t *a, const i
     settle_degree(t, level, c, a_degree + b_degree);
 }
 
-/* IP_REM: a := the remainder of a by the monic b, polynomials over that level. The quotient stays in a's
-   coefficients from deg b on. */
-static void divide(const struct tower *t, int level, int64_t *a, const int64_t *b, int64_t *work)
+void published_divide(const struct tower *t, int level, int64_t *a, const int64_t *b, int64_t *work)
 {
     const int64_t a_degree = a[0], b_degree = b[0], q_degree = a_degree - b_degree, size = t->size[level];
     if (q_degree < 0)
@@ -185,6 +180,66 @@ static void divide(const struct tower *t, int level, int64_t *a, const int64_t *
         put_reduced(t, level, t1, a_k, rest);
     }
     settle_degree(t, level, a, b_degree - 1);
+}
+
+/* x := x·y, elements of that level. */
+static void multiply_element(const struct tower *t, int level, int64_t *x, const int64_t *y, int64_t *work)
+{
+    if (level == 0) {
+        x[0] = (int64_t)((uint64_t)x[0] * (uint64_t)y[0] % t->p);
+        return;
+    }
+    int64_t *rest = work + polynomial_words(t, level - 1, 2 * t->degree[level] - 2);
+    multiply(t, level - 1, x, y, work, rest);
+    put_reduced(t, level, work, x, rest);
+}
+
+void published_scale(const struct tower *t, int level, int64_t *a, const int64_t *scalar, int64_t *work)
+{
+    const int64_t a_degree = a[0];
+    for (int64_t k = 0; k <= a_degree; k++)
+        multiply_element(t, level, a + 1 + k * t->size[level], scalar, work);
+    settle_degree(t, level, a, a_degree);
+}
+
+/* IP_LIN over level 0. */
+static void subtract_product_of_numbers(const struct tower *t, int64_t *c, const int64_t *a, int64_t a_degree,
+                                        const int64_t *b)
+{
+    const int64_t p_squared = (int64_t)(t->p * t->p), b_degree = b[0], top = a_degree + b_degree;
+    set_zeros(t, 0, c, c[0] + 1, top + 1);
+    for (int64_t k = 0; k <= top; k++) {
+        const int64_t first = excess(k, b_degree), last = lesser(k, a_degree);
+        int64_t sum = 0;
+        for (int64_t i = first; i <= last; i++)
+            sum = add_product(sum, a[i], b[1 + k - i], p_squared);
+        c[1 + k] = difference_of_numbers(t, c[1 + k], (int64_t)((uint64_t)sum % t->p));
+    }
+    settle_degree(t, 0, c, greater(c[0], top));
+}
+
+void published_subtract_product(const struct tower *t, int level, int64_t *c, const int64_t *a, int64_t a_degree,
+                                const int64_t *b, int64_t *work)
+{
+    const int64_t b_degree = b[0], size = t->size[level], top = a_degree + b_degree;
+    if (level == 0) {
+        subtract_product_of_numbers(t, c, a, a_degree, b);
+        return;
+    }
+    const int64_t words = polynomial_words(t, level - 1, 2 * t->degree[level] - 2);
+    int64_t *t1 = work, *t2 = work + words, *rest = work + 2 * words;
+    set_zeros(t, level, c, c[0] + 1, top + 1);
+    for (int64_t k = 0; k <= top; k++) {
+        const int64_t first = excess(k, b_degree), last = lesser(k, a_degree);
+        int64_t *c_k = c + 1 + k * size;
+        copy_words(t1, c_k, polynomial_words(t, level - 1, c_k[0]));
+        for (int64_t i = first; i <= last; i++) {
+            multiply(t, level - 1, a + i * size, b + 1 + (k - i) * size, t2, rest);
+            subtract_polynomial(t, level - 1, t1, t2);
+        }
+        put_reduced(t, level, t1, c_k, rest);
+    }
+    settle_degree(t, level, c, greater(c[0], top));
 }
 
 /* The call for product: c := a·b, the whole slot c written. */
@@ -210,7 +265,7 @@ static size_t division(int64_t p, int64_t n, const int64_t degrees[4], const int
     struct tower t;
     find_tower(&t, p, n, degrees, tower);
     const int64_t a_degree = a[0], b_degree = b[0], q_degree = greater(-1, a_degree - b_degree);
-    divide(&t, t.levels, a, b, work);
+    published_divide(&t, t.levels, a, b, work);
     q[0] = q_degree;
     copy_words(q + 1, a + 1 + b_degree * t.size[t.levels], (q_degree + 1) * t.size[t.levels]);
     set_zeros(&t, t.levels, a, b_degree, a_degree + 1);
@@ -218,4 +273,4 @@ static size_t division(int64_t p, int64_t n, const int64_t degrees[4], const int
     return 0;
 }
 
-const struct contender published = {"published", product, division};
+const struct contender published = {"published", product, division, published_inverse, published_gcd};

@@ -69,6 +69,15 @@ static inline int is_zero(int level, const int64_t *element)
     return level == 0 ? element[0] == 0 : element[0] < 0;
 }
 
+/* Whether an element in form is 1. */
+static inline int is_one(int level, const int64_t *element)
+{
+    for (int i = 0; i < level; i++)
+        if (element[i] != 0)
+            return 0;
+    return element[level] == 1;
+}
+
 /* element := 0. */
 static inline void set_zero(const struct tower *t, int level, int64_t *element)
 {
@@ -101,12 +110,33 @@ static inline void set_zeros(const struct tower *t, int level, int64_t *polynomi
         set_zero(t, level, polynomial + 1 + k * t->size[level]);
 }
 
+/* element := a polynomial over the level below, of lower degree than m_level. */
+static inline void put_element(const struct tower *t, int level, const int64_t *polynomial, int64_t *element)
+{
+    copy_words(element, polynomial, polynomial_words(t, level - 1, polynomial[0]));
+    set_zeros(t, level - 1, element, polynomial[0] + 1, t->degree[level]);
+}
+
+/* The leading coefficient of a polynomial that is not zero. */
+static inline const int64_t *leading(const struct tower *t, int level, const int64_t *polynomial)
+{
+    return polynomial + 1 + polynomial[0] * t->size[level];
+}
+
 /* Sets the degree word of a polynomial that has nothing but zeros above coefficient top. */
 static inline void settle_degree(const struct tower *t, int level, int64_t *polynomial, int64_t top)
 {
     while (top >= 0 && is_zero(level, polynomial + 1 + top * t->size[level]))
         top--;
     polynomial[0] = top;
+}
+
+/* The number of a call; a shown factor's buffer gets zeros behind the factor. */
+static inline size_t told(const struct tower *t, size_t number, int64_t *factor, size_t factor_len)
+{
+    for (size_t i = number < 100 ? factor_len : (size_t)t->size[number - 100]; i < factor_len; i++)
+        factor[i] = 0;
+    return number;
 }
 
 #endif
