@@ -28,14 +28,19 @@ def four(degrees):
     return tuple(degrees) + (0,) * (4 - len(degrees))
 
 
-def degrees_of_size(size):
-    """All degrees of 1 to 4 levels, each 2 to 64, with S_N equal to size."""
+def degrees_up_to(size):
+    """All degrees of 1 to 4 levels, each 2 to 64, with S_N at most size."""
     found, rows = [], [()]
     for _ in range(4):
         rows = [row + (d,) for row in rows for d in range(2, 65)
                 if words.sizes(row + (d,))[-1] <= size]
-        found += [row for row in rows if words.sizes(row)[-1] == size]
+        found += rows
     return found
+
+
+def degrees_of_size(size):
+    """Those with S_N equal to size."""
+    return [row for row in degrees_up_to(size) if words.sizes(row)[-1] == size]
 
 
 def random_degrees(rng, largest):

@@ -102,25 +102,6 @@ def words_of_document(check):
     check(inverse_in_words(four, [1, 1, 2]) == ("factor", 0, [2, 0, 0]), "C12")
 
 
-def calculator_case(check):
-    """The worked case of the calculator: its gcd, div and inv lines."""
-    m_1 = [2, 5, 0, 1]
-    check(words.tower_in_form(7, (2,), m_1), "ext")
-    check(words.tower_from_words(7, (2,), m_1) == T7, "ext")
-    a_words = [2, 0, 5, 0, -1, 0, 0, 0, 1, 0]
-    b_words = [1, 1, 0, 6, 0, 1, 0]
-    for slot in (a_words, b_words):
-        check(words.slot_in_form(7, (2,), slot), "poly", slot)
-    check(gcd_in_words(T7, a_words, b_words, 2)
-          == ("done", [1, 1, 0, 6, 0, 1, 0]), "gcd")
-    kind, value = sequence.divide(T7, words.slot_from_words((2,), a_words),
-                                  words.slot_from_words((2,), b_words))
-    check(kind == "done", "div")
-    check([words.shortest_slot((2,), f) for f in value]
-          == [[1, 1, 0, 1, 0, 1, 0], [-1, -1, 0, 0]], "div, words")
-    check(inverse_in_words(T7, [1, 3, 1]) == ("factor", 1, [1, 3, 1]), "inv")
-
-
 def traps_of_document(check):
     """What is easy to get wrong: degrees of products, 1, and the order."""
     six = Tower(6, ())
@@ -163,6 +144,5 @@ def run(check):
     sizes_of_document(check)
     values_of_document(check)
     words_of_document(check)
-    calculator_case(check)
     traps_of_document(check)
     fractions(check)

@@ -11,8 +11,8 @@ sys.dont_write_bytecode = True
 sys.path.insert(0, os.path.dirname(os.path.dirname(os.path.abspath(__file__))))
 
 from second import (
-    check_calls, check_gcd, check_inverse, check_products, check_ring, check_sequences,
-    check_words, figures, sequence)
+    check_calculator, check_calls, check_examples, check_gcd, check_inverse,
+    check_products, check_ring, check_sequences, check_words, figures, sequence)
 from second.ring import Tower, degree, one, poly_add, poly_shift, zero
 
 
@@ -96,6 +96,8 @@ GROUPS = [
     ("calls and refusals", check_calls.calls_and_refusals),
     ("products and divisions", check_products.products_and_divisions),
     ("calls inverse and GCD", check_sequences.inverses_and_gcds),
+    ("calculator", check_calculator.calculator),
+    ("examples", check_examples.examples),
     ("number 11 never given", number_eleven),
 ]
 

@@ -7,18 +7,16 @@ every lent list as it must be afterwards. The leading view has no answer; the wo
 that it shows stand beside it, as a list.
 """
 
-import argparse
 import collections
 import os
 import sys
 
 sys.dont_write_bytecode = True
-ROOT = os.path.dirname(os.path.dirname(os.path.abspath(__file__)))
-sys.path.insert(0, ROOT)
+sys.path.insert(0, os.path.dirname(os.path.dirname(os.path.abspath(__file__))))
 
 from second import (
     calls, cases_division, cases_gcd, cases_inverse, cases_numbers, cases_product,
-    cases_slot, cases_sum, cases_tower, cases_view, products, sequence_calls)
+    cases_slot, cases_sum, cases_tower, cases_view, files, products, sequence_calls)
 
 
 def answers(numbers, levels=()):
@@ -86,49 +84,16 @@ def report(name, counts, expected):
         sys.exit(f"{name}: too few cases, or an answer that none of them gives")
 
 
-def files():
-    """The text of each file of the program's, by its path; tells the counts."""
+def made():
+    """The bytes of stdin and stdout; tells the counts."""
     stdin, stdout = [], []
     for name, call, groups, expected in CALLS:
         asked, answered, counts = lines_of(name, call, groups)
         report(name, counts, expected)
         stdin += asked
         stdout += answered
-    folder = os.path.join(ROOT, "crates", "vectors")
-    return {os.path.join(folder, "stdin"): "".join(stdin),
-            os.path.join(folder, "stdout"): "".join(stdout)}
-
-
-def holds(path, text):
-    """Whether the file is there and holds this text."""
-    if not os.path.exists(path):
-        return False
-    with open(path, "rb") as old:
-        return old.read() == text.encode("ascii")
-
-
-def write(path, text):
-    """Puts the text into the file."""
-    with open(path, "wb") as new:
-        new.write(text.encode("ascii"))
-
-
-def main():
-    """Makes both files' text, and writes or compares it."""
-    parser = argparse.ArgumentParser(
-        description="Writes crates/vectors/stdin and crates/vectors/stdout.")
-    parser.add_argument("--check", action="store_true",
-                        help="write nothing; exit 1 where a file differs")
-    check = parser.parse_args().check
-    other = [(path, text) for path, text in files().items() if not holds(path, text)]
-    for path, text in other:
-        if not check:
-            write(path, text)
-        print("differs:" if check else "changed:", os.path.relpath(path, ROOT))
-    if not other:
-        print("unchanged")
-    return 1 if check and other else 0
+    return "".join(stdin).encode("ascii"), "".join(stdout).encode("ascii")
 
 
 if __name__ == "__main__":
-    sys.exit(main())
+    sys.exit(files.write_or_compare("crates/vectors", made))
