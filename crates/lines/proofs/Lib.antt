@@ -1,0 +1,17 @@
+pub mod Words
+pub mod Numerals
+pub mod Appends
+pub mod Decimals
+pub mod Places
+pub mod Slotted
+pub mod Texts
+pub mod FieldWords
+pub mod LineSays
+pub mod Answering
+pub mod Done
+pub mod States
+pub mod Lent
+pub mod Telling
+pub mod Lending
+pub mod Stepping
+pub mod Operations

@@ -1,0 +1,11 @@
+pub mod Text
+pub mod Names
+pub mod Appending
+pub mod Reading
+pub mod ReadingFigures
+pub mod Printing
+pub mod Answers
+pub mod Steps
+pub mod Kept
+pub mod Written
+pub mod Shortest
