@@ -29,7 +29,7 @@ stateOf k tower a b = record {
   b = take (k .b) b;
 }
 
--- "at most 512 words" a line, four levels at most; without a field there is nothing
+-- "at most 512 words" a line, four levels at most
 pub record Sound (k : Kept) : Type 0 where
   pub levels-few : k .levels ≤ 4
   pub tower-inside : k .tower ≤ 2048
