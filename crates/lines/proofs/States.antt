@@ -6,7 +6,7 @@
 -- keeps-field .. keeps-same   == what is kept after each line
 -- granted .. field-granted    == whether a line is allowed
 use Prim.Native.Nat.{ℕ, _+_, _-_, _<_, _≤_}
-use mathlib.Core.Bool.{true, false, not}
+use mathlib.Core.Bool.{true, false, not, true≢false}
 use mathlib.Core.List.{List, [], _∷_, _++_}
 use mathlib.Core.Path.{_≡_, refl, sym, ap, ap₂, _∙_, subst}
 use native.Mathlib.Numerals.{add-one}
@@ -37,6 +37,7 @@ begun = record {
     a-inside = omega arith;
     b-inside = omega arith;
     degrees-four = refl;
+    none = λ off. (refl, refl);
   };
   state = λ tower a b h. rw (drop-of-length-le tower {i = 2048} (omega arith)) refl;
 }
@@ -58,6 +59,7 @@ fielded-begun p g = record {
     a-inside = g .sound .a-inside;
     b-inside = g .sound .b-inside;
     degrees-four = g .sound .degrees-four;
+    none = λ off. absurd (true≢false off);
   };
   state = λ tower a b h. ap (fieldedState p) (g .state tower a b h);
 }
@@ -84,6 +86,7 @@ extended-is {k} degree h = record {
     a-inside = omega arith;
     b-inside = omega arith;
     degrees-four = length-set (k .degrees) (k .levels) degree ∙ h .sound .degrees-four;
+    none = λ off. (refl, refl);
   };
   field = refl;
   p = refl;
@@ -109,14 +112,16 @@ drop-put {at} {l} {w} {w′} n e p =
 abbrev pub counted : Kept → ℕ → ℕ → Kept
 counted k a b = record { field = k .field; p = k .p; levels = k .levels; degrees = k .degrees; tower = k .tower; a = a; b = b; told = k .told }
 
-counted-sound : {k : Kept} (a b : ℕ) → Sound k → a ≤ 512 → b ≤ 512 → Sound (counted k a b)
-counted-sound a b s few-a few-b = record {
+-- with a field
+counted-sound : {k : Kept} (a b : ℕ) → Sound k → k .field ≡ true → a ≤ 512 → b ≤ 512 → Sound (counted k a b)
+counted-sound a b s on few-a few-b = record {
   levels-few = s .levels-few;
   tower-inside = s .tower-inside;
   tower-room = s .tower-room;
   a-inside = few-a;
   b-inside = few-b;
   degrees-four = s .degrees-four;
+  none = λ off. absurd (true≢false (sym on ∙ off));
 }
 
 module _ {line : Line} {k : Kept} {words tower a b : List ℤ} (ready : KeepReady line k words tower a b) where
@@ -132,6 +137,12 @@ module _ {line : Line} {k : Kept} {words tower a b : List ℤ} (ready : KeepRead
 
   ext-level : {n : ℕ} → line ≡ Ext n → k .levels < 4
   ext-level h = rw h at (ready .allows)
+
+  first-field : {n : ℕ} → line ≡ First n → k .field ≡ true
+  first-field h = rw h at (ready .allows)
+
+  second-field : {n : ℕ} → line ≡ Second n → k .field ≡ true
+  second-field h = rw h at (ready .allows)
 
   pub ext-room : {n : ℕ} → line ≡ Ext n → n ≤ k .tower
   ext-room h = omega (arith, ext-few h .1, ext-level h, ready .sound .tower-room)
@@ -178,13 +189,13 @@ module _ {line : Line} {k : Kept} {words tower a b : List ℤ} (ready : KeepRead
   -- a `poly` of n words
   pub keeps-first : {n : ℕ} {a′ : List ℤ} → line ≡ First n → Put 0 (seg 0 n words) a a′ → KeptBy line k words tower a b (counted k n (k .b)) tower a′ b
   keeps-first {n} h put = rw h (record {
-    sound = counted-sound n (k .b) (ready .sound) (first-few h .1) (ready .sound .b-inside);
+    sound = counted-sound n (k .b) (ready .sound) (first-field h) (first-few h .1) (ready .sound .b-inside);
     state = rw (put-seg n (carries (first-few h .1)) put) refl;
   })
 
   pub keeps-second : {n : ℕ} {b′ : List ℤ} → line ≡ Second n → Put 0 (seg 0 n words) b b′ → KeptBy line k words tower a b (counted k (k .a) n) tower a b′
   keeps-second {n} h put = rw h (record {
-    sound = counted-sound (k .a) n (ready .sound) (ready .sound .a-inside) (second-few h .1);
+    sound = counted-sound (k .a) n (ready .sound) (second-field h) (ready .sound .a-inside) (second-few h .1);
     state = rw (put-seg n (carries (second-few h .1)) put) refl;
   })
 
@@ -221,13 +232,13 @@ module _ {line : Line} {k : Kept} where
   first-refused h t = let off = not-true (k .field) t in refused h (λ w tower a b. rw off refl)
 
   pub first-granted : {n : ℕ} → line ≡ First n → not (k .field) ≡ false → AllowedBy line k (First n)
-  first-granted h t = let on = not-false (k .field) t in granted h tt (λ w tower a b. rw on refl)
+  first-granted h t = let on = not-false (k .field) t in granted h on (λ w tower a b. rw on refl)
 
   pub second-refused : {n : ℕ} → line ≡ Second n → not (k .field) ≡ true → AllowedBy line k Unreadable
   second-refused h t = let off = not-true (k .field) t in refused h (λ w tower a b. rw off refl)
 
   pub second-granted : {n : ℕ} → line ≡ Second n → not (k .field) ≡ false → AllowedBy line k (Second n)
-  second-granted h t = let on = not-false (k .field) t in granted h tt (λ w tower a b. rw on refl)
+  second-granted h t = let on = not-false (k .field) t in granted h on (λ w tower a b. rw on refl)
 
   pub field-granted : {p : ℤ} → line ≡ Field p → SFits w64 p → AllowedBy line k (Field (toZ w64 (ofZ w64 p)))
   field-granted {p} h f = subst (λ q. AllowedBy line k (Field q)) (sym (toZ-ofZ w64 p f)) (granted h tt (λ w tower a b. refl))

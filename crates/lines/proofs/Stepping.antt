@@ -1,5 +1,6 @@
 -- Laws of a line read and answered.
 --
+-- gcd-ready .. inv-ready  == an operation has what it asks for
 -- told-line, told-nothing == a line is answered by what its case prints; field, ext and poly print nothing
 -- keep-ready, stepped     == a line that is read, allowed, answered and kept
 use Prim.Native.Nat.{ℕ}
@@ -10,9 +11,22 @@ use lib.IntN.{ℤ}
 use Rattle.lines.specs.declared.Kept.{Kept}
 use Rattle.lines.specs.declared.Line.{Line}
 use Rattle.lines.specs.Appending.{Appended}
-use Rattle.lines.specs.Kept.{stateOf, Sound, AllowedBy, WordStore, KeepReady, KeptBy, TellReady, Told, Stepped}
+use Rattle.lines.specs.Kept.{stateOf, Sound, AllowedBy, WordStore, TowerStore, AnswerStore, FactorStore, WorkStore, OutStore, KeepReady, KeptBy, TellReady, Told, Stepped}
 use Rattle.lines.specs.Reading.{Meaning, meaningOf, meant, Says}
 use Rattle.lines.specs.Steps.{allowed, after, printed}
+
+module _ {k : Kept} {tower a b g r f v : List ℤ} {out : List ℕ} (h : TellReady k tower a b g r f v out) where
+  pub gcd-ready : Sound k × (TowerStore tower × (WordStore a × (WordStore b × (AnswerStore g × (FactorStore f × (WorkStore v × OutStore out))))))
+  gcd-ready = (h .sound, (h .tower-long, (h .a-long, (h .b-long, (h .g-long, (h .f-long, (h .v-long, h .out-long)))))))
+
+  pub div-ready : Sound k × (TowerStore tower × (WordStore a × (WordStore b × (AnswerStore g × (WordStore r × (WorkStore v × OutStore out))))))
+  div-ready = (h .sound, (h .tower-long, (h .a-long, (h .b-long, (h .g-long, (h .r-long, (h .v-long, h .out-long)))))))
+
+  pub mul-ready : Sound k × (TowerStore tower × (WordStore a × (WordStore b × (AnswerStore g × (WorkStore v × OutStore out)))))
+  mul-ready = (h .sound, (h .tower-long, (h .a-long, (h .b-long, (h .g-long, (h .v-long, h .out-long))))))
+
+  pub inv-ready : Sound k × (TowerStore tower × (WordStore a × (AnswerStore g × (FactorStore f × (WorkStore v × OutStore out)))))
+  inv-ready = (h .sound, (h .tower-long, (h .a-long, (h .g-long, (h .f-long, (h .v-long, h .out-long))))))
 
 module _ {line : Line} {number : ℕ} {k : Kept} {tower a b : List ℤ} {out out′ : List ℕ} {r : ℕ} where
   pub told-line : {l : Line} → line ≡ l → ((w : List ℤ) → Appended 0 (printed (stateOf k tower a b) number (meant l w)) out out′ r) → Told line number k tower a b out out′ r
@@ -33,6 +47,7 @@ toldBy-sound told s = record {
   a-inside = s .a-inside;
   b-inside = s .b-inside;
   degrees-four = s .degrees-four;
+  none = s .none;
 }
 
 pub keep-ready : {line granted : Line} {k : Kept} {words tower a b g r f v : List ℤ} {m : Meaning} {out : List ℕ}

@@ -5,6 +5,7 @@
 -- WordStore .. OutStore       == the lengths of the stores
 -- Told, Stepped               == what is printed for a line; a line read and answered
 use Prim.Native.Nat.{ℕ, suc, _+_, _*_, _<_, _≤_}
+use mathlib.Core.Bool.{true, false}
 use mathlib.Core.List.{List}
 use mathlib.Core.Path.{_≡_}
 use lib.IntN.{ℤ}
@@ -37,6 +38,8 @@ pub record Sound (k : Kept) : Type 0 where
   pub a-inside : k .a ≤ 512
   pub b-inside : k .b ≤ 512
   pub degrees-four : length (k .degrees) ≡ 4
+  -- without a field there is no operand
+  pub none : k .field ≡ false → (k .a ≡ 0) × (k .b ≡ 0)
 
 -- ---- the parts of the program
 -- what is kept before the first line, and after `field` p
@@ -60,13 +63,13 @@ pub record Extended (k : Kept) (degree : ℤ) (n : ℕ) (r : Kept) : Type 0 wher
   pub a : r .a ≡ 0
   pub b : r .b ≡ 0
 
--- a line that is allowed
+-- a line that is allowed: `ext` has a level left, `poly` has a field
 abbrev pub Allowed : Kept → Line → Type 0
 Allowed k (Ext n) = k .levels < 4
 Allowed k Unreadable = Unit {0}
 Allowed k (Field p) = Unit {0}
-Allowed k (First n) = Unit {0}
-Allowed k (Second n) = Unit {0}
+Allowed k (First n) = k .field ≡ true
+Allowed k (Second n) = k .field ≡ true
 Allowed k Gcd = Unit {0}
 Allowed k Div = Unit {0}
 Allowed k Mul = Unit {0}

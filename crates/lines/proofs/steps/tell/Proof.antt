@@ -1,5 +1,5 @@
 -- `lines::steps::tell` meets its contract, line by line. Assumes nothing.
-use Rattle.lines.proofs.Stepping.{told-line, told-nothing}
+use Rattle.lines.proofs.Stepping.{gcd-ready, div-ready, mul-ready, inv-ready, told-line, told-nothing}
 use borrow.Author.Needs.{needs}
 use Rattle.lines.proofs.steps.tell.Statement.{statement}
 use Rattle.lines.proofs.steps.tell.Tie as tie
@@ -26,25 +26,25 @@ enum-told-6 : tie.Need-enum-told-6
 enum-told-6 c = search needs
 
 tell-gcd-requires : tie.Need-tell-gcd-requires
-tell-gcd-requires c κs = search needs
+tell-gcd-requires c κs = gcd-ready (c .before .before .before .before .before .before .before .pre)
 
 enum-told-7 : tie.Need-enum-told-7
 enum-told-7 c = search needs
 
 tell-div-requires : tie.Need-tell-div-requires
-tell-div-requires c κs = search needs
+tell-div-requires c κs = div-ready (c .before .before .before .before .before .before .before .pre)
 
 enum-told-8 : tie.Need-enum-told-8
 enum-told-8 c = search needs
 
 tell-mul-requires : tie.Need-tell-mul-requires
-tell-mul-requires c κs = search needs
+tell-mul-requires c κs = mul-ready (c .before .before .before .before .before .before .pre)
 
 enum-told-9 : tie.Need-enum-told-9
 enum-told-9 c = search needs
 
 tell-inv-requires : tie.Need-tell-inv-requires
-tell-inv-requires c κs = search needs
+tell-inv-requires c κs = inv-ready (c .before .before .before .before .before .before .before .pre)
 
 same-length : tie.Need-same-length
 same-length c = search needs
