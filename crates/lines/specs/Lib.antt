@@ -7,5 +7,6 @@ pub mod Printing
 pub mod Answers
 pub mod Steps
 pub mod Kept
+pub mod Determined
 pub mod Written
 pub mod Shortest
