@@ -8,5 +8,6 @@ pub mod Answers
 pub mod Steps
 pub mod Kept
 pub mod Determined
+pub mod Worked
 pub mod Written
 pub mod Shortest
