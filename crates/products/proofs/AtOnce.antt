@@ -6,7 +6,7 @@
 -- at-once          == the laws of it, where the sums are there
 use Prim.Native.Nat.{ℕ, suc, _+_, _-_, _*_, _<_}
 use native.Mathlib.Omega.{arith}
-use mathlib.Core.Path.{_≡_, refl, sym, ap, subst, _∙_}
+use mathlib.Core.Path.{_≡_, refl, sym, ap, subst}
 use mathlib.Core.Bool.{Bool}
 use mathlib.Core.List.{List}
 use lib.IntN.{ℤ, pos}
@@ -23,20 +23,17 @@ use Rattle.products.proofs.Pairings.{line-asks, line-summed}
 use Rattle.products.proofs.Lowerings.{Lowering, lowest-some, lowering-start, lowering-ready, lowering-writes, lowering-next, lowering-end}
 
 -- the sums s, by their places; w₀ is the store before
-pub record AtOnce (d : List ℕ) (p : ℕ) (m : List ℕ) (e : List ℤ) (e-in : Bool) (ea : ℕ) (o : Two) (neg keep : Bool) (w₀ : List ℤ) (c top g q : ℕ)
+pub record AtOnce (d : List ℕ) (p : ℕ) (m : List ℕ) (e : List ℤ) (e-in : Bool) (ea : ℕ) (o : Two) (neg keep : Bool) (w₀ : List ℤ) (c top q : ℕ)
     (s : ℕ → Accumulator) : Type 0 where
   pub start : Lowering d p m e e-in ea o neg keep w₀ c top (wide q) w₀
-  pub writes : (k : ℕ) {w : List ℤ} → Lowering d p m e e-in ea o neg keep w₀ c top (suc k) w → WriteReady g p (pick e-in w e) ea keep w c top k (s k .lo) (s k .hi)
+  pub writes : (k : ℕ) {w : List ℤ} → Lowering d p m e e-in ea o neg keep w₀ c top (suc k) w → WriteReady q p (pick e-in w e) ea keep w c top k (s k .lo) (s k .hi)
   pub next : (k : ℕ) {w w′ : List ℤ} → Lowering d p m e e-in ea o neg keep w₀ c top (suc k) w
-      → w′ ≡ set w (top + k) (pos (writtenNumber g p (pick e-in w e) ea neg keep w c top k (sumOf (s k .lo) (s k .hi))))
+      → w′ ≡ set w (top + k) (pos (writtenNumber q p (pick e-in w e) ea neg keep w c top k (sumOf (s k .lo) (s k .hi))))
       → Lowering d p m e e-in ea o neg keep w₀ c top k w′
   pub done : {w : List ℤ} → Lowering d p m e e-in ea o neg keep w₀ c top 0 w → LowestDone d p m e e-in ea o neg keep w₀ w c top
 
-module _ {d z : List ℕ} {p : ℕ} {m : List ℕ} {e : List ℤ} {e-in : Bool} {ea : ℕ} {o : Two} {keep : Bool} {w₀ : List ℤ} {c top g q : ℕ}
-    (h : ProductReady 1 d z p m e e-in ea o keep w₀ c top) (level : o .i ≡ 1) (eg : g ≡ degree d 0) (eq : g ≡ q) where
-  low : q ≡ degree d 0
-  low = sym eq ∙ eg
-
+module _ {d z : List ℕ} {p : ℕ} {m : List ℕ} {e : List ℤ} {e-in : Bool} {ea : ℕ} {o : Two} {keep : Bool} {w₀ : List ℤ} {c top q : ℕ}
+    (h : ProductReady 1 d z p m e e-in ea o keep w₀ c top) (level : o .i ≡ 1) (low : q ≡ degree d 0) where
   begin : (neg : Bool) → Lowering d p m e e-in ea o neg keep w₀ c top (wide q) w₀
   begin neg = lowering-start h refl low
 
@@ -55,15 +52,15 @@ module _ {d z : List ℕ} {p : ℕ} {m : List ℕ} {e : List ℤ} {e-in : Bool} 
     below : (k : ℕ) → k ≡ suc k - 1
     below k = omega arith
 
-    pub at-once : AtOnce d p m e e-in ea o neg keep w₀ c top g q s
+    pub at-once : AtOnce d p m e e-in ea o neg keep w₀ c top q s
     at-once = record {
       start = begin neg;
       writes = λ k {w} lo.
-          subst (λ n. WriteReady g p (pick e-in w e) ea keep w c top n (s k .lo) (s k .hi)) (sym (below k))
-          (lowering-writes h (omega arith) lo eg (subst (λ n. SummedAt d m o w₀ n (s k .lo) (s k .hi)) (below k) (summed k lo)));
+          subst (λ n. WriteReady q p (pick e-in w e) ea keep w c top n (s k .lo) (s k .hi)) (sym (below k))
+          (lowering-writes h (omega arith) lo low (subst (λ n. SummedAt d m o w₀ n (s k .lo) (s k .hi)) (below k) (summed k lo)));
       next = λ k {w} {w′} lo ew.
           subst (λ n. Lowering d p m e e-in ea o neg keep w₀ c top n w′) (sym (below k))
-          (lowering-next h (omega arith) lo eg (subst (λ n. SummedAt d m o w₀ n (s k .lo) (s k .hi)) (below k) (summed k lo))
-          (subst (λ n. w′ ≡ set w (top + n) (pos (writtenNumber g p (pick e-in w e) ea neg keep w c top n (sumOf (s k .lo) (s k .hi))))) (below k) ew));
+          (lowering-next h (omega arith) lo low (subst (λ n. SummedAt d m o w₀ n (s k .lo) (s k .hi)) (below k) (summed k lo))
+          (subst (λ n. w′ ≡ set w (top + n) (pos (writtenNumber q p (pick e-in w e) ea neg keep w c top n (sumOf (s k .lo) (s k .hi))))) (below k) ew));
       done = λ lo. lowering-end h refl lo;
     }

@@ -7,6 +7,7 @@ ghost use lib.IntN.{pos};
 ghost use lib.ListN.{set};
 ghost use Rattle.residue.specs.Number.{sumOf, Below};
 ghost use Rattle.residue.specs.Word.{at};
+ghost use Rattle.tower.specs.Levels.{degree};
 ghost use Rattle.products.specs.Product.{two, ProductReady, ProductDone};
 ghost use Rattle.arithmetic.specs.Walk.{pick};
 ghost use Rattle.products.specs.Lowest.{oldNumber, OldReady, SingleReady, singleNumber, PairsAtReady, SummedAt, DividedReady, dividedNumber};
@@ -144,6 +145,74 @@ pub fn write_at(
     residue::put(w, top + k, gain(loses(neg, k, g), u, v, p));
 }
 
+// Level 1, elements of two coefficients: all coefficients, from their three sums.
+pub fn lowest_two(
+    d: [usize; 4],
+    z: [usize; 5],
+    p: u64,
+    m: [usize; 4],
+    e: &[i64],
+    e_in: bool,
+    ea: usize,
+    x: &[i64],
+    x_in: bool,
+    a: usize,
+    y: &[i64],
+    y_in: bool,
+    b: usize,
+    n: usize,
+    neg: bool,
+    keep: bool,
+    w: &mut [i64],
+    c: usize,
+    top: usize,
+)
+    requires { ⌜ (degree d 0 ≡ 2) × ProductReady 1 d z p m (now e) «e_in» ea (two 1 (now x) «x_in» a (now y) «y_in» b n) keep (now w) c top ⌝ }
+    ensures { λ _.
+        ⌜ LowestDone d p m (now (e .entry)) «e_in» ea (two 1 (now (x .entry)) «x_in» a (now (y .entry)) «y_in» b n) neg keep (now (w .entry)) (now (w .exit)) c top ⌝ }
+{
+    let t = three_pairs(w, x, x_in, a, y, y_in, b, n);
+    write_at(2, 2, p, e, e_in, ea, neg, keep, w, c, top, t.high);
+    write_at(1, 2, p, e, e_in, ea, neg, keep, w, c, top, t.middle);
+    write_at(0, 2, p, e, e_in, ea, neg, keep, w, c, top, t.low);
+}
+
+// Level 1, elements of four coefficients: all coefficients, from their seven sums.
+pub fn lowest_four(
+    d: [usize; 4],
+    z: [usize; 5],
+    p: u64,
+    m: [usize; 4],
+    e: &[i64],
+    e_in: bool,
+    ea: usize,
+    x: &[i64],
+    x_in: bool,
+    a: usize,
+    y: &[i64],
+    y_in: bool,
+    b: usize,
+    n: usize,
+    neg: bool,
+    keep: bool,
+    w: &mut [i64],
+    c: usize,
+    top: usize,
+)
+    requires { ⌜ (degree d 0 ≡ 4) × ProductReady 1 d z p m (now e) «e_in» ea (two 1 (now x) «x_in» a (now y) «y_in» b n) keep (now w) c top ⌝ }
+    ensures { λ _.
+        ⌜ LowestDone d p m (now (e .entry)) «e_in» ea (two 1 (now (x .entry)) «x_in» a (now (y .entry)) «y_in» b n) neg keep (now (w .entry)) (now (w .exit)) c top ⌝ }
+{
+    let t = seven_pairs(w, x, x_in, a, y, y_in, b, n);
+    write_at(6, 4, p, e, e_in, ea, neg, keep, w, c, top, t.third.high);
+    write_at(5, 4, p, e, e_in, ea, neg, keep, w, c, top, t.third.middle);
+    write_at(4, 4, p, e, e_in, ea, neg, keep, w, c, top, t.third.low);
+    write_at(3, 4, p, e, e_in, ea, neg, keep, w, c, top, t.second.middle);
+    write_at(2, 4, p, e, e_in, ea, neg, keep, w, c, top, t.second.low);
+    write_at(1, 4, p, e, e_in, ea, neg, keep, w, c, top, t.first.middle);
+    write_at(0, 4, p, e, e_in, ea, neg, keep, w, c, top, t.first.low);
+}
+
 // Level 1: all coefficients, from top on; below g what the element at c comes to, above that the negated quotient.
 pub fn lowest(
     i: usize,
@@ -174,21 +243,51 @@ pub fn lowest(
     let g = degree_at(d, 0);
     if i == 1 {
         if g == 2 {
-            let t = three_pairs(w, x, x_in, a, y, y_in, b, n);
-            write_at(2, g, p, e, e_in, ea, neg, keep, w, c, top, t.high);
-            write_at(1, g, p, e, e_in, ea, neg, keep, w, c, top, t.middle);
-            write_at(0, g, p, e, e_in, ea, neg, keep, w, c, top, t.low);
+            lowest_two(
+                d,
+                z,
+                p,
+                m,
+                e,
+                e_in,
+                ea,
+                x,
+                x_in,
+                a,
+                y,
+                y_in,
+                b,
+                n,
+                neg,
+                keep,
+                w,
+                c,
+                top,
+            );
             return;
         }
         if g == 4 {
-            let t = seven_pairs(w, x, x_in, a, y, y_in, b, n);
-            write_at(6, g, p, e, e_in, ea, neg, keep, w, c, top, t.third.high);
-            write_at(5, g, p, e, e_in, ea, neg, keep, w, c, top, t.third.middle);
-            write_at(4, g, p, e, e_in, ea, neg, keep, w, c, top, t.third.low);
-            write_at(3, g, p, e, e_in, ea, neg, keep, w, c, top, t.second.middle);
-            write_at(2, g, p, e, e_in, ea, neg, keep, w, c, top, t.second.low);
-            write_at(1, g, p, e, e_in, ea, neg, keep, w, c, top, t.first.middle);
-            write_at(0, g, p, e, e_in, ea, neg, keep, w, c, top, t.first.low);
+            lowest_four(
+                d,
+                z,
+                p,
+                m,
+                e,
+                e_in,
+                ea,
+                x,
+                x_in,
+                a,
+                y,
+                y_in,
+                b,
+                n,
+                neg,
+                keep,
+                w,
+                c,
+                top,
+            );
             return;
         }
     }
