@@ -21,15 +21,15 @@ use Rattle.residue.proofs.Laws.{room-start, room-less, added-none, added-more}
 use Rattle.tower.specs.Levels.{degree}
 use Rattle.tower.specs.Writing.{size, size-zero, size-suc}
 use Rattle.arithmetic.specs.Walk.{total, total-zero, placeOf, firstOf, spanOf, dotAt, pairAt-zero, pairAt-suc, runAt, Readable, Many, PairsReady}
-use Rattle.arithmetic.specs.Box.{boxAt, BoxOf, volume, BoxReady}
+use Rattle.arithmetic.specs.Box.{way, boxAt, BoxOf, volume, BoxReady}
 use Rattle.arithmetic.specs.Line.{lineAt, PlaceReached, LineOf, LineReady}
 use Rattle.arithmetic.proofs.Boxes.{two-words, two-ways, two-sum, alike-swap, alike-ready, alike-sum}
 use Rattle.arithmetic.proofs.Walks.{residues-zero, residues-suc}
 
 -- ---- the window at a place, as rows or as columns
 module _ (g k n : ℕ) (x : List ℤ) (a : ℕ) (p : LineOf g n x a) {f c : ℕ} (ef : f ≡ first g k) (ec : c ≡ span g g k) where
-  in-rows : BoxOf ((n, g + 1) ∷ (c, 1) ∷ []) x (a + 1 + f)
-  in-rows = two-words n (g + 1) c 1 x (a + 1 + f) (λ o s u t.
+  in-rows : BoxOf (way n (g + 1) ∷ way c 1 ∷ []) x (a + 1 + f)
+  in-rows = two-words (way n (g + 1)) (way c 1) x (a + 1 + f) (λ o s u t.
       let e : a + o * suc g + 1 + (f + u) ≡ a + 1 + f + o * (g + 1) + u * 1 = omega arith in
       subst (Readable x) e (p o s (f + u) (omega arith)))
 
@@ -55,29 +55,29 @@ module _ {g : ℕ} {x : List ℤ} {a : ℕ} {y : List ℤ} {b n : ℕ} (p : Line
         let most : c ≤ suc g = omega arith in
         mul-le-mul-left n most
 
-    pub line-rows : 0 < n → BoxReady x (a + 1 + f) y (b + 1 + f) ((n, g + 1) ∷ (c, 1) ∷ []) 0 0
+    pub line-rows : 0 < n → BoxReady x (a + 1 + f) y (b + 1 + f) (way n (g + 1) ∷ way c 1 ∷ []) 0 0
     line-rows s =
         let t : 0 < c = omega arith in
         record {
-          some = rw (two-ways n (g + 1) c 1) (mul-pos s t);
+          some = rw (two-ways (way n (g + 1)) (way c 1)) (mul-pos s t);
           left = in-rows g k n x a (p .left) ef ec;
           right = in-rows g k n y b (p .right) ef ec;
-          room = rw (two-ways n (g + 1) c 1) (room-less _ (n * suc g) 0 0 few (room-start (n * suc g) (p .few)));
+          room = rw (two-ways (way n (g + 1)) (way c 1)) (room-less _ (n * suc g) 0 0 few (room-start (n * suc g) (p .few)));
         }
 
-    pub line-columns : 0 < n → BoxReady x (a + 1 + f) y (b + 1 + f) ((c, 1) ∷ (n, g + 1) ∷ []) 0 0
-    line-columns s = alike-ready (alike-swap n (g + 1) c 1 []) (line-rows s)
+    pub line-columns : 0 < n → BoxReady x (a + 1 + f) y (b + 1 + f) (way c 1 ∷ way n (g + 1) ∷ []) 0 0
+    line-columns s = alike-ready (alike-swap (way n (g + 1)) (way c 1) []) (line-rows s)
 
-    pub rows-line : {l t : ℕ} → Added (volume ((n, g + 1) ∷ (c, 1) ∷ [])) (boxAt x y ((n, g + 1) ∷ (c, 1) ∷ []) (a + 1 + f) (b + 1 + f)) 0 0 l t
+    pub rows-line : {l t : ℕ} → Added (volume (way n (g + 1) ∷ way c 1 ∷ [])) (boxAt x y (way n (g + 1) ∷ way c 1 ∷ []) (a + 1 + f) (b + 1 + f)) 0 0 l t
         → Added (n * suc g) (lineAt x y g k n a b) 0 0 l t
     rows-line {l} {t} w =
-        let e : boxAt x y ((n, g + 1) ∷ (c, 1) ∷ []) (a + 1 + f) (b + 1 + f) ≡ lineAt x y g k n a b =
-        two-sum x y n (g + 1) c 1 (a + 1 + f) (b + 1 + f) ∙ rw (ef, ec, add-one g) in
-        added-more (n * c) (n * suc g) _ 0 0 l t few (rw (two-ways n (g + 1) c 1, e) at w)
+        let e : boxAt x y (way n (g + 1) ∷ way c 1 ∷ []) (a + 1 + f) (b + 1 + f) ≡ lineAt x y g k n a b =
+        two-sum x y (way n (g + 1)) (way c 1) (a + 1 + f) (b + 1 + f) ∙ rw (ef, ec, add-one g) in
+        added-more (n * c) (n * suc g) _ 0 0 l t few (rw (two-ways (way n (g + 1)) (way c 1), e) at w)
 
-    pub columns-line : {l t : ℕ} → 0 < n → Added (volume ((c, 1) ∷ (n, g + 1) ∷ [])) (boxAt x y ((c, 1) ∷ (n, g + 1) ∷ []) (a + 1 + f) (b + 1 + f)) 0 0 l t
+    pub columns-line : {l t : ℕ} → 0 < n → Added (volume (way c 1 ∷ way n (g + 1) ∷ [])) (boxAt x y (way c 1 ∷ way n (g + 1) ∷ []) (a + 1 + f) (b + 1 + f)) 0 0 l t
         → Added (n * suc g) (lineAt x y g k n a b) 0 0 l t
-    columns-line s w = rows-line (alike-sum (alike-swap n (g + 1) c 1 []) (line-rows s) w)
+    columns-line s w = rows-line (alike-sum (alike-swap (way n (g + 1)) (way c 1) []) (line-rows s) w)
 
 -- ---- operands in the store or in lent words
 module _ {g : ℕ} {x : List ℤ} {a : ℕ} {y : List ℤ} {b n : ℕ} (p : LineReady g x a y b n) {x′ y′ : List ℤ} (ex : x ≡ x′) (ey : y ≡ y′) where

@@ -7,6 +7,7 @@ ghost use Rattle.arithmetic.specs.Walk.{pick};
 ghost use Rattle.arithmetic.specs.Line.{lineAt, LineReady, PlaceReached, ThreeSums, fromLow, TileReady, TileSums, SevenSums};
 use super::places::first_of;
 use super::places::span_of;
+use super::walk::Way;
 use super::walk::dots;
 use super::walk::product_at;
 use residue::Accumulator;
@@ -23,10 +24,17 @@ pub fn line(g: usize, k: usize, x: &[i64], a: usize, y: &[i64], b: usize, n: usi
     }
     let f = first_of(g, k);
     let c = span_of(g, g, k);
+    let run = Way {
+        count: n,
+        step: g + 1,
+    };
+    let row = Way { count: c, step: 1 };
+    let xa = a + 1 + f;
+    let yb = b + 1 + f;
     if n < c {
-        return dots(x, a + 1 + f, y, b + 1 + f, n, g + 1, c, 1, s);
+        return dots(x, xa, y, yb, run, row, s);
     }
-    dots(x, a + 1 + f, y, b + 1 + f, c, 1, n, g + 1, s)
+    dots(x, xa, y, yb, row, run, s)
 }
 
 // The same of operands in the store w or in lent words.

@@ -47,149 +47,122 @@ pub fn dot(
     r
 }
 
-// The same of rows of such pairs, `apart` words apart.
+// A way through two lists: how many pairs there are, upwards in the one and downwards in the other, and how many words apart they stand.
+pub struct Way {
+    pub count: usize,
+    pub step: usize,
+}
+
+// Adds the products of the pairs of a box of two ways, the outer first.
 pub fn dots(
     x: &[i64],
     a: usize,
     y: &[i64],
     b: usize,
-    rows: usize,
-    apart: usize,
-    n: usize,
-    step: usize,
+    v1: Way,
+    v0: Way,
     s: Accumulator,
 ) -> Accumulator
-    requires { ⌜ BoxReady (now x) a (now y) b ((rows, apart) ∷ (n, step) ∷ []) (s .lo) (s .hi) ⌝ }
+    requires { ⌜ BoxReady (now x) a (now y) b (v1 ∷ v0 ∷ []) (s .lo) (s .hi) ⌝ }
     ensures { λ r.
-        ⌜ Added (volume ((rows, apart) ∷ (n, step) ∷ [])) (boxAt (now (x .entry)) (now (y .entry)) ((rows, apart) ∷ (n, step) ∷ []) a b) (s .lo) (s .hi) (r .lo) (r .hi) ⌝ }
+        ⌜ Added (volume (v1 ∷ v0 ∷ [])) (boxAt (now (x .entry)) (now (y .entry)) (v1 ∷ v0 ∷ []) a b) (s .lo) (s .hi) (r .lo) (r .hi) ⌝ }
 {
+    let n = v1.count;
+    let u = v1.step;
     let mut r = s;
     let mut k: usize = 0;
-    while k < rows {
-        r = dot(x, a + k * apart, y, b + (rows - 1 - k) * apart, n, step, r);
+    while k < n {
+        r = dot(x, a + k * u, y, b + (n - 1 - k) * u, v0.count, v0.step, r);
         k += 1;
     }
     r
 }
 
-// The same over three ways, the outermost first: n pairs each, s words apart.
+// Of a box of three ways, the outermost first.
 pub fn box3(
     x: &[i64],
     a: usize,
     y: &[i64],
     b: usize,
-    n2: usize,
-    s2: usize,
-    n1: usize,
-    s1: usize,
-    n0: usize,
-    s0: usize,
+    v2: Way,
+    v1: Way,
+    v0: Way,
     s: Accumulator,
 ) -> Accumulator
-    requires { ⌜ BoxReady (now x) a (now y) b ((n2, s2) ∷ (n1, s1) ∷ (n0, s0) ∷ []) (s .lo) (s .hi) ⌝ }
+    requires { ⌜ BoxReady (now x) a (now y) b (v2 ∷ v1 ∷ v0 ∷ []) (s .lo) (s .hi) ⌝ }
     ensures { λ r.
-        ⌜ Added (volume ((n2, s2) ∷ (n1, s1) ∷ (n0, s0) ∷ [])) (boxAt (now (x .entry)) (now (y .entry)) ((n2, s2) ∷ (n1, s1) ∷ (n0, s0) ∷ []) a b) (s .lo) (s .hi) (r .lo) (r .hi) ⌝ }
+        ⌜ Added (volume (v2 ∷ v1 ∷ v0 ∷ [])) (boxAt (now (x .entry)) (now (y .entry)) (v2 ∷ v1 ∷ v0 ∷ []) a b) (s .lo) (s .hi) (r .lo) (r .hi) ⌝ }
 {
+    let n = v2.count;
+    let u = v2.step;
     let mut r = s;
     let mut k: usize = 0;
-    while k < n2 {
-        r = dots(x, a + k * s2, y, b + (n2 - 1 - k) * s2, n1, s1, n0, s0, r);
+    while k < n {
+        r = dots(x, a + k * u, y, b + (n - 1 - k) * u, v1, v0, r);
         k += 1;
     }
     r
 }
 
-// Over four ways.
+// Of four ways.
 pub fn box4(
     x: &[i64],
     a: usize,
     y: &[i64],
     b: usize,
-    n3: usize,
-    s3: usize,
-    n2: usize,
-    s2: usize,
-    n1: usize,
-    s1: usize,
-    n0: usize,
-    s0: usize,
+    v3: Way,
+    v2: Way,
+    v1: Way,
+    v0: Way,
     s: Accumulator,
 ) -> Accumulator
-    requires { ⌜ BoxReady (now x) a (now y) b ((n3, s3) ∷ (n2, s2) ∷ (n1, s1) ∷ (n0, s0) ∷ []) (s .lo) (s .hi) ⌝ }
+    requires { ⌜ BoxReady (now x) a (now y) b (v3 ∷ v2 ∷ v1 ∷ v0 ∷ []) (s .lo) (s .hi) ⌝ }
     ensures { λ r.
-        ⌜ Added (volume ((n3, s3) ∷ (n2, s2) ∷ (n1, s1) ∷ (n0, s0) ∷ [])) (boxAt (now (x .entry)) (now (y .entry)) ((n3, s3) ∷ (n2, s2) ∷ (n1, s1) ∷ (n0, s0) ∷ []) a b) (s .lo) (s .hi) (r .lo) (r .hi) ⌝ }
+        ⌜ Added (volume (v3 ∷ v2 ∷ v1 ∷ v0 ∷ [])) (boxAt (now (x .entry)) (now (y .entry)) (v3 ∷ v2 ∷ v1 ∷ v0 ∷ []) a b) (s .lo) (s .hi) (r .lo) (r .hi) ⌝ }
 {
+    let n = v3.count;
+    let u = v3.step;
     let mut r = s;
     let mut k: usize = 0;
-    while k < n3 {
-        r = box3(
-            x,
-            a + k * s3,
-            y,
-            b + (n3 - 1 - k) * s3,
-            n2,
-            s2,
-            n1,
-            s1,
-            n0,
-            s0,
-            r,
-        );
+    while k < n {
+        r = box3(x, a + k * u, y, b + (n - 1 - k) * u, v2, v1, v0, r);
         k += 1;
     }
     r
 }
 
-// Over five ways.
+// Of five ways.
 pub fn box5(
     x: &[i64],
     a: usize,
     y: &[i64],
     b: usize,
-    n4: usize,
-    s4: usize,
-    n3: usize,
-    s3: usize,
-    n2: usize,
-    s2: usize,
-    n1: usize,
-    s1: usize,
-    n0: usize,
-    s0: usize,
+    v4: Way,
+    v3: Way,
+    v2: Way,
+    v1: Way,
+    v0: Way,
     s: Accumulator,
 ) -> Accumulator
-    requires { ⌜ BoxReady (now x) a (now y) b ((n4, s4) ∷ (n3, s3) ∷ (n2, s2) ∷ (n1, s1) ∷ (n0, s0) ∷ []) (s .lo) (s .hi) ⌝ }
+    requires { ⌜ BoxReady (now x) a (now y) b (v4 ∷ v3 ∷ v2 ∷ v1 ∷ v0 ∷ []) (s .lo) (s .hi) ⌝ }
     ensures { λ r.
-        ⌜ Added (volume ((n4, s4) ∷ (n3, s3) ∷ (n2, s2) ∷ (n1, s1) ∷ (n0, s0) ∷ [])) (boxAt (now (x .entry)) (now (y .entry)) ((n4, s4) ∷ (n3, s3) ∷ (n2, s2) ∷ (n1, s1) ∷ (n0, s0) ∷ []) a b) (s .lo) (s .hi) (r .lo) (r .hi) ⌝ }
+        ⌜ Added (volume (v4 ∷ v3 ∷ v2 ∷ v1 ∷ v0 ∷ [])) (boxAt (now (x .entry)) (now (y .entry)) (v4 ∷ v3 ∷ v2 ∷ v1 ∷ v0 ∷ []) a b) (s .lo) (s .hi) (r .lo) (r .hi) ⌝ }
 {
+    let n = v4.count;
+    let u = v4.step;
     let mut r = s;
     let mut k: usize = 0;
-    while k < n4 {
-        r = box4(
-            x,
-            a + k * s4,
-            y,
-            b + (n4 - 1 - k) * s4,
-            n3,
-            s3,
-            n2,
-            s2,
-            n1,
-            s1,
-            n0,
-            s0,
-            r,
-        );
+    while k < n {
+        r = box4(x, a + k * u, y, b + (n - 1 - k) * u, v3, v2, v1, v0, r);
         k += 1;
     }
     r
 }
 
-// The window of a level: where its first coefficients stand, how many pairs meet, and how far apart they are.
+// The window of a level: where its first coefficients stand, and the way through the pairs that meet.
 pub struct Window {
     pub at: usize,
-    pub count: usize,
-    pub step: usize,
+    pub way: Way,
 }
 
 // That of level l + 1 in elements of level i; a level that is not below i has one pair, at 0.
@@ -200,8 +173,7 @@ pub fn window_at(i: usize, l: usize, d: [usize; 4], z: [usize; 5], m: [usize; 4]
     if i <= l {
         return Window {
             at: 0,
-            count: 1,
-            step: 0,
+            way: Way { count: 1, step: 0 },
         };
     }
     let g = degree_at(d, l);
@@ -211,103 +183,38 @@ pub fn window_at(i: usize, l: usize, d: [usize; 4], z: [usize; 5], m: [usize; 4]
     let c = span_of(g, g, k);
     Window {
         at: 1 + f * u,
-        count: c,
-        step: u,
+        way: Way { count: c, step: u },
     }
 }
 
-// The sum over the n pairs of a run, three windows and c residues; the longest of the three lowest ways is the innermost loop.
+// The sum over the pairs of a run, three windows and c residues; the longest of the three lowest ways is the innermost loop.
 pub fn box_sum(
     x: &[i64],
     a: usize,
     y: &[i64],
     b: usize,
-    n: usize,
-    step: usize,
-    h: Window,
-    t: Window,
-    l: Window,
+    run: Way,
+    h: Way,
+    t: Way,
+    l: Way,
     c: usize,
 ) -> Accumulator
-    requires { ⌜ BoxReady (now x) a (now y) b (fiveWays n step h t l c) 0 0 ⌝ }
+    requires { ⌜ BoxReady (now x) a (now y) b (fiveWays run h t l c) 0 0 ⌝ }
     ensures { λ r.
-        ⌜ Added (volume (fiveWays n step h t l c)) (boxAt (now (x .entry)) (now (y .entry)) (fiveWays n step h t l c) a b) 0 0 (r .lo) (r .hi) ⌝ }
+        ⌜ Added (volume (fiveWays run h t l c)) (boxAt (now (x .entry)) (now (y .entry)) (fiveWays run h t l c) a b) 0 0 (r .lo) (r .hi) ⌝ }
 {
     let s = Accumulator { lo: 0, hi: 0 };
+    let g = Way { count: c, step: 1 };
     if l.count < c {
-        if n < c {
-            return box5(
-                x,
-                a,
-                y,
-                b,
-                h.count,
-                h.step,
-                t.count,
-                t.step,
-                n,
-                step,
-                l.count,
-                l.step,
-                c,
-                1,
-                s,
-            );
+        if run.count < c {
+            return box5(x, a, y, b, h, t, run, l, g, s);
         }
-        return box5(
-            x,
-            a,
-            y,
-            b,
-            h.count,
-            h.step,
-            t.count,
-            t.step,
-            l.count,
-            l.step,
-            c,
-            1,
-            n,
-            step,
-            s,
-        );
+        return box5(x, a, y, b, h, t, l, g, run, s);
     }
-    if n < l.count {
-        return box5(
-            x,
-            a,
-            y,
-            b,
-            h.count,
-            h.step,
-            t.count,
-            t.step,
-            n,
-            step,
-            c,
-            1,
-            l.count,
-            l.step,
-            s,
-        );
+    if run.count < l.count {
+        return box5(x, a, y, b, h, t, run, g, l, s);
     }
-    box5(
-        x,
-        a,
-        y,
-        b,
-        h.count,
-        h.step,
-        t.count,
-        t.step,
-        l.count,
-        l.step,
-        c,
-        1,
-        n,
-        step,
-        s,
-    )
+    box5(x, a, y, b, h, t, l, g, run, s)
 }
 
 // What n pairs of elements of level i come to at the places m: upwards from a in x and downwards to b in y, each in the store w or in lent words.
@@ -332,7 +239,10 @@ pub fn sum_pairs(
     if n == 0 {
         return Accumulator { lo: 0, hi: 0 };
     }
-    let u = size_at(z, i);
+    let run = Way {
+        count: n,
+        step: size_at(z, i),
+    };
     let h = window_at(i, 3, d, z, m);
     let t = window_at(i, 2, d, z, m);
     let l = window_at(i, 1, d, z, m);
@@ -340,15 +250,14 @@ pub fn sum_pairs(
     let f = h.at + t.at + l.at + g.at;
     let xa = a + f;
     let yb = b + f;
-    let c = g.count;
     if x_in {
         if y_in {
-            return box_sum(w, xa, w, yb, n, u, h, t, l, c);
+            return box_sum(w, xa, w, yb, run, h.way, t.way, l.way, g.way.count);
         }
-        return box_sum(w, xa, y, yb, n, u, h, t, l, c);
+        return box_sum(w, xa, y, yb, run, h.way, t.way, l.way, g.way.count);
     }
     if y_in {
-        return box_sum(x, xa, w, yb, n, u, h, t, l, c);
+        return box_sum(x, xa, w, yb, run, h.way, t.way, l.way, g.way.count);
     }
-    box_sum(x, xa, y, yb, n, u, h, t, l, c)
+    box_sum(x, xa, y, yb, run, h.way, t.way, l.way, g.way.count)
 }

@@ -19,39 +19,39 @@ span-of-requires c κs =
     let s = c .before .before in
     line-small (s .pre .1) (s .args .k) (s .pre .0) (omega (arith, c .before .if1 .left)) (omega (arith, s .good))
 
-add-dots : tie.Need-add-dots
-add-dots c =
-    let s = c .before .before .before .before in
-    let if1 = c .before .before .before .if1 in
-    let first-of = c .before .before .first-of in
-    omega (arith, s .good, line-inside (s .pre .1) (s .args .k) (s .pre .0) (omega (arith, if1 .left)) (first-of .ensures) .0)
-
-add-dots-2 : tie.Need-add-dots-2
-add-dots-2 c =
-    let s = c .before .before .before .before in
-    let if1 = c .before .before .before .if1 in
-    let first-of = c .before .before .first-of in
-    omega (arith, s .good, line-inside (s .pre .1) (s .args .k) (s .pre .0) (omega (arith, if1 .left)) (first-of .ensures) .0)
-
-add-dots-3 : tie.Need-add-dots-3
-add-dots-3 c =
-    let s = c .before .before .before .before in
-    let if1 = c .before .before .before .if1 in
-    let first-of = c .before .before .first-of in
-    omega (arith, s .good, line-inside (s .pre .1) (s .args .k) (s .pre .0) (omega (arith, if1 .left)) (first-of .ensures) .1)
-
-add-dots-4 : tie.Need-add-dots-4
-add-dots-4 c =
-    let s = c .before .before .before .before in
-    let if1 = c .before .before .before .if1 in
-    let first-of = c .before .before .first-of in
-    omega (arith, s .good, line-inside (s .pre .1) (s .args .k) (s .pre .0) (omega (arith, if1 .left)) (first-of .ensures) .1)
-
-add-dots-5 : tie.Need-add-dots-5
-add-dots-5 c =
-    let s = c .before .before .before .before in
-    let if1 = c .before .before .before .if1 in
+add-xa : tie.Need-add-xa
+add-xa c =
+    let s = c .before .before .before in
+    let if1 = c .before .before .if1 in
     omega (arith, line-narrow (s .pre .1) (s .args .k) (s .pre .0) (omega (arith, if1 .left)) (omega (arith, s .good)))
+
+add-xa-2 : tie.Need-add-xa-2
+add-xa-2 c =
+    let s = c .before .before .before in
+    let if1 = c .before .before .if1 in
+    let first-of = c .before .first-of in
+    omega (arith, s .good, line-inside (s .pre .1) (s .args .k) (s .pre .0) (omega (arith, if1 .left)) (first-of .ensures) .0)
+
+add-xa-3 : tie.Need-add-xa-3
+add-xa-3 c =
+    let s = c .before .before .before in
+    let if1 = c .before .before .if1 in
+    let first-of = c .before .first-of in
+    omega (arith, s .good, line-inside (s .pre .1) (s .args .k) (s .pre .0) (omega (arith, if1 .left)) (first-of .ensures) .0)
+
+add-yb : tie.Need-add-yb
+add-yb c =
+    let s = c .before .before .before in
+    let if1 = c .before .before .if1 in
+    let first-of = c .before .first-of in
+    omega (arith, s .good, line-inside (s .pre .1) (s .args .k) (s .pre .0) (omega (arith, if1 .left)) (first-of .ensures) .1)
+
+add-yb-2 : tie.Need-add-yb-2
+add-yb-2 c =
+    let s = c .before .before .before in
+    let if1 = c .before .before .if1 in
+    let first-of = c .before .first-of in
+    omega (arith, s .good, line-inside (s .pre .1) (s .args .k) (s .pre .0) (omega (arith, if1 .left)) (first-of .ensures) .1)
 
 dots-requires : tie.Need-dots-requires
 dots-requires c κs =
@@ -67,40 +67,6 @@ returns-2 c =
     let first-of = c .before .before .before .first-of in
     let span-of = c .before .before .span-of in
     rows-line (s .pre .1) (s .args .k) (s .pre .0) (first-of .ensures) (span-of .ensures) (c .dots .ensures)
-
-add-dots-6 : tie.Need-add-dots-6
-add-dots-6 c =
-    let s = c .before .before .before .before in
-    let if1 = c .before .before .before .if1 in
-    let first-of = c .before .before .first-of in
-    omega (arith, s .good, line-inside (s .pre .1) (s .args .k) (s .pre .0) (omega (arith, if1 .left)) (first-of .ensures) .0)
-
-add-dots-7 : tie.Need-add-dots-7
-add-dots-7 c =
-    let s = c .before .before .before .before in
-    let if1 = c .before .before .before .if1 in
-    let first-of = c .before .before .first-of in
-    omega (arith, s .good, line-inside (s .pre .1) (s .args .k) (s .pre .0) (omega (arith, if1 .left)) (first-of .ensures) .0)
-
-add-dots-8 : tie.Need-add-dots-8
-add-dots-8 c =
-    let s = c .before .before .before .before in
-    let if1 = c .before .before .before .if1 in
-    let first-of = c .before .before .first-of in
-    omega (arith, s .good, line-inside (s .pre .1) (s .args .k) (s .pre .0) (omega (arith, if1 .left)) (first-of .ensures) .1)
-
-add-dots-9 : tie.Need-add-dots-9
-add-dots-9 c =
-    let s = c .before .before .before .before in
-    let if1 = c .before .before .before .if1 in
-    let first-of = c .before .before .first-of in
-    omega (arith, s .good, line-inside (s .pre .1) (s .args .k) (s .pre .0) (omega (arith, if1 .left)) (first-of .ensures) .1)
-
-add-dots-10 : tie.Need-add-dots-10
-add-dots-10 c =
-    let s = c .before .before .before .before in
-    let if1 = c .before .before .before .if1 in
-    omega (arith, line-narrow (s .pre .1) (s .args .k) (s .pre .0) (omega (arith, if1 .left)) (omega (arith, s .good)))
 
 dots-requires-2 : tie.Need-dots-requires-2
 dots-requires-2 c κs =
@@ -125,17 +91,12 @@ line-spec =
     returns
     first-of-requires
     span-of-requires
-    add-dots
-    add-dots-2
-    add-dots-3
-    add-dots-4
-    add-dots-5
+    add-xa
+    add-xa-2
+    add-xa-3
+    add-yb
+    add-yb-2
     dots-requires
     returns-2
-    add-dots-6
-    add-dots-7
-    add-dots-8
-    add-dots-9
-    add-dots-10
     dots-requires-2
     returns-3)

@@ -3,17 +3,16 @@ use mathlib.Core.Path.{refl}
 use mathlib.Core.List.{[], _∷_}
 use Prim.Native.Nat.{_-_}
 use native.Mathlib.Omega.{arith}
-use mir.Facts.{fits-le}
 use Rattle.arithmetic.proofs.Walks.{folded-start, folded-next}
 use Rattle.arithmetic.proofs.Boxes.{Turns, box-place, box-turn, box-end}
 use Rattle.arithmetic.proofs.walk.box3.Statement.{statement}
 use Rattle.arithmetic.proofs.walk.box3.Tie as tie
 
 abbrev Inv-loop : tie.InvT-loop
-Inv-loop x a y b n2 s2 n1 s1 n0 s0 r₀ k₀ r k = Turns x y a b n2 s2 ((n1, s1) ∷ (n0, s0) ∷ []) (r₀ .lo) (r₀ .hi) k (r .lo) (r .hi)
+Inv-loop x a y b v1 v0 n u r₀ k₀ r k = Turns x y a b n u (v1 ∷ v0 ∷ []) (r₀ .lo) (r₀ .hi) k (r .lo) (r .hi)
 
 abbrev μ-loop : tie.MeasureT-loop
-μ-loop x a y b n2 s2 n1 s1 n0 s0 r₀ k₀ r k = n2 - k
+μ-loop x a y b v1 v0 n u r₀ k₀ r k = n - k
 
 loop-holds : tie.Need-loop-holds Inv-loop μ-loop
 loop-holds c = folded-start
@@ -60,7 +59,7 @@ dots-requires c κs =
     box-turn (s .pre) (loop .k) (loop-test .taken) (loop .inv)
 
 add-k : tie.Need-add-k Inv-loop μ-loop
-add-k c = fits-le (omega (arith, c .before .loop-test .taken)) (c .before .before .before .fits .n2)
+add-k c = omega (arith, c .before .loop-test .taken, c .before .before .before .good)
 
 loop-less : tie.Need-loop-less Inv-loop μ-loop
 loop-less c = omega (arith, c .before .loop-test .taken)

@@ -3,17 +3,16 @@ use mathlib.Core.Path.{refl}
 use mathlib.Core.List.{[], _∷_}
 use Prim.Native.Nat.{_-_}
 use native.Mathlib.Omega.{arith}
-use mir.Facts.{fits-le}
 use Rattle.arithmetic.proofs.Walks.{folded-start, folded-next}
 use Rattle.arithmetic.proofs.Boxes.{Turns, box-place, box-turn, box-end, dot-turn, dot-end}
 use Rattle.arithmetic.proofs.walk.dots.Statement.{statement}
 use Rattle.arithmetic.proofs.walk.dots.Tie as tie
 
 abbrev Inv-loop : tie.InvT-loop
-Inv-loop x a y b rows apart n step r₀ k₀ r k = Turns x y a b rows apart ((n, step) ∷ []) (r₀ .lo) (r₀ .hi) k (r .lo) (r .hi)
+Inv-loop x a y b v0 n u r₀ k₀ r k = Turns x y a b n u (v0 ∷ []) (r₀ .lo) (r₀ .hi) k (r .lo) (r .hi)
 
 abbrev μ-loop : tie.MeasureT-loop
-μ-loop x a y b rows apart n step r₀ k₀ r k = rows - k
+μ-loop x a y b v0 n u r₀ k₀ r k = n - k
 
 loop-holds : tie.Need-loop-holds Inv-loop μ-loop
 loop-holds c = folded-start
@@ -60,7 +59,7 @@ dot-requires c κs =
     dot-turn (box-turn (s .pre) (loop .k) (loop-test .taken) (loop .inv))
 
 add-k : tie.Need-add-k Inv-loop μ-loop
-add-k c = fits-le (omega (arith, c .before .loop-test .taken)) (c .before .before .before .fits .rows)
+add-k c = omega (arith, c .before .loop-test .taken, c .before .before .before .good)
 
 loop-less : tie.Need-loop-less Inv-loop μ-loop
 loop-less c = omega (arith, c .before .loop-test .taken)

@@ -39,8 +39,8 @@ span-of-requires c κs =
     let place-at = c .before .place-at in
     window-place (s .pre .1) (s .pre .2) (omega (arith, if1 .left)) (degree-at .ensures) (place-at .ensures) (size-at .ensures)
 
-mul-t12 : tie.Need-mul-t12
-mul-t12 c =
+mul-t13 : tie.Need-mul-t13
+mul-t13 c =
     let s = c .before .before .before .before .before .before in
     let if1 = c .before .before .before .before .before .if1 in
     let degree-at = c .before .before .before .before .degree-at in
@@ -49,8 +49,8 @@ mul-t12 c =
     let first-of = c .before .first-of in
     omega (arith, window-start (s .pre .1) (s .pre .2) (omega (arith, if1 .left)) (degree-at .ensures) (place-at .ensures) (size-at .ensures) (first-of .ensures))
 
-add-t13 : tie.Need-add-t13
-add-t13 c =
+add-t14 : tie.Need-add-t14
+add-t14 c =
     let s = c .before .before .before .before .before .before in
     let if1 = c .before .before .before .before .before .if1 in
     let degree-at = c .before .before .before .before .degree-at in
@@ -80,6 +80,6 @@ window-at-spec =
     place-at-requires
     first-of-requires
     span-of-requires
-    mul-t12
-    add-t13
+    mul-t13
+    add-t14
     returns-2)
