@@ -6,6 +6,7 @@ ghost use Rattle.polynomials.specs.Slots.{DivideReady, Parted, DivideRow
 use arithmetic::places::first_of;
 use arithmetic::places::span_of;
 use arithmetic::rows::settle;
+use products::Operands;
 use products::product::product;
 use tower::form::coefficient_at;
 use tower::sizes::size_at;
@@ -68,29 +69,16 @@ pub fn multiply_at(
     let x = coefficient_at(0, first_of(cb, j), s);
     let y = coefficient_at(0, first_of(ca, j), s);
     let n = span_of(ca, cb, j);
-    product(
-        i,
-        i,
-        d,
-        z,
-        p,
-        [0usize; 4],
-        t,
-        false,
-        0,
-        a,
-        false,
-        x,
-        b,
-        false,
-        y,
-        n,
-        false,
-        false,
-        w,
-        0,
-        s,
-    );
+    let m = [0usize; 4];
+    let o = Operands {
+        i: i,
+        x_in: false,
+        a: x,
+        y_in: false,
+        b: y,
+        n: n,
+    };
+    product(i, d, z, p, m, t, false, 0, a, b, o, false, false, w, 0, s);
     copy_in(w, 0, c, coefficient_at(0, j, s), s);
 }
 
@@ -169,29 +157,15 @@ pub fn divide_row(
         let y = coefficient_at(0, first_of(g, k), s);
         let n = span_of(g, cap - g, k);
         copy_in(a, coefficient_at(0, k, s), w, 0, s);
-        product(
-            i,
-            i,
-            d,
-            z,
-            p,
-            m,
-            t,
-            false,
-            0,
-            b,
-            false,
-            x,
-            q,
-            false,
-            y,
-            n,
-            true,
-            true,
-            w,
-            0,
-            s,
-        );
+        let o = Operands {
+            i: i,
+            x_in: false,
+            a: x,
+            y_in: false,
+            b: y,
+            n: n,
+        };
+        product(i, d, z, p, m, t, false, 0, b, q, o, true, true, w, 0, s);
         place_coefficient(k, g, s, w, a, q);
     }
 }

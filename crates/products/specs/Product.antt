@@ -3,7 +3,8 @@
 -- Worked c n top m w w′  == w′ is w but for the n words from c on and the m words from top on
 -- work d j               == the words above top that a product at level j uses
 -- TowerStands, Elements  == the words of a tower, of n elements one behind the other, stand at a place
--- Two                    == the code's operands: n pairs of elements of level i, upwards from a in x and downwards to b in y, each in the store or lent
+-- Two                    == n pairs of elements of level i, upwards from a in x and downwards to b in y, each in the store or lent
+-- operands o x y         == those that the code's numbers name
 -- Inside                 == n words of an operand: within its list, and below top where it is in the store
 -- Given, Pairs           == elements that stand in the operands' words and in the answer's place; what the pairs come to
 -- Spread                 == the same where the old content's coefficients stand from top on
@@ -27,6 +28,7 @@ use Rattle.tower.specs.Stands.{Stands}
 use Rattle.arithmetic.specs.Sum.{gained}
 use Rattle.arithmetic.specs.Walk.{pick, placeOf}
 use Rattle.arithmetic.specs.Places.{wide}
+use Rattle.products.specs.declared.Operands.{Operands}
 use Rattle.products.specs.Value.{part, value, pairs}
 
 -- ---- frames
@@ -67,6 +69,9 @@ pub record Two : Type 0 where
 
 abbrev pub two : ℕ → List ℤ → Bool → ℕ → List ℤ → Bool → ℕ → ℕ → Two
 two i x x-in a y y-in b n = record { i = i; x = x; x-in = x-in; a = a; y = y; y-in = y-in; b = b; n = n }
+
+abbrev pub operands : Operands → List ℤ → List ℤ → Two
+operands o x y = two (o .i) x (o .«x_in») (o .a) y (o .«y_in») (o .b) (o .n)
 
 abbrev pub left : Two → List ℤ → List ℤ
 left o w = pick (o .x-in) w (o .x)

@@ -8,10 +8,11 @@ ghost use lib.ListN.{set};
 ghost use Rattle.residue.specs.Number.{sumOf, Below};
 ghost use Rattle.residue.specs.Word.{at};
 ghost use Rattle.tower.specs.Levels.{degree};
-ghost use Rattle.products.specs.Product.{two, ProductReady, ProductDone};
+ghost use Rattle.products.specs.Product.{operands, ProductReady, ProductDone};
 ghost use Rattle.arithmetic.specs.Walk.{pick};
 ghost use Rattle.products.specs.Lowest.{oldNumber, OldReady, SingleReady, singleNumber, PairsAtReady, SummedAt, DividedReady, dividedNumber};
 ghost use Rattle.products.specs.Lowest.{WriteReady, writtenNumber, LowestDone, LeaveReady, Left};
+use super::Operands;
 use arithmetic::lines::line_pairs;
 use arithmetic::lines::seven_pairs;
 use arithmetic::lines::three_pairs;
@@ -42,28 +43,23 @@ pub fn old_at(keep: bool, p: u64, w: &[i64], c: usize) -> u64
 
 // Level 0: the residue at c gains, or loses where neg, what the pairs come to at the places m.
 pub fn single(
-    i: usize,
     d: [usize; 4],
     z: [usize; 5],
     p: u64,
     m: [usize; 4],
     x: &[i64],
-    x_in: bool,
-    a: usize,
     y: &[i64],
-    y_in: bool,
-    b: usize,
-    n: usize,
+    o: Operands,
     neg: bool,
     keep: bool,
     w: &mut [i64],
     c: usize,
 )
-    requires { ⌜ SingleReady d z p m (two i (now x) «x_in» a (now y) «y_in» b n) keep (now w) c ⌝ }
+    requires { ⌜ SingleReady d z p m (operands o (now x) (now y)) keep (now w) c ⌝ }
     ensures { λ _.
-        ⌜ now (w .exit) ≡ set (now (w .entry)) c (pos (singleNumber d p m (two i (now (x .entry)) «x_in» a (now (y .entry)) «y_in» b n) neg keep (now (w .entry)) c)) ⌝ }
+        ⌜ now (w .exit) ≡ set (now (w .entry)) c (pos (singleNumber d p m (operands o (now (x .entry)) (now (y .entry))) neg keep (now (w .entry)) c)) ⌝ }
 {
-    let s = sum_pairs(i, d, z, m, w, x, x_in, a, y, y_in, b, n);
+    let s = sum_pairs(o.i, d, z, m, w, x, o.x_in, o.a, y, o.y_in, o.b, o.n);
     let v = residue::reduce(s, p);
     let u = old_at(keep, p, w, c);
     residue::put(w, c, gain(neg, u, v, p));
@@ -73,26 +69,22 @@ pub fn single(
 pub fn pairs_at(
     k: usize,
     g: usize,
-    i: usize,
     d: [usize; 4],
     z: [usize; 5],
     m: [usize; 4],
     x: &[i64],
-    x_in: bool,
-    a: usize,
     y: &[i64],
-    y_in: bool,
-    b: usize,
-    n: usize,
+    o: Operands,
     w: &[i64],
 ) -> Accumulator
-    requires { ⌜ PairsAtReady g d z m (two i (now x) «x_in» a (now y) «y_in» b n) (now w) k ⌝ }
-    ensures { λ r. ⌜ SummedAt d m (two i (now (x .entry)) «x_in» a (now (y .entry)) «y_in» b n) (now (w .entry)) k (r .lo) (r .hi) ⌝ }
+    requires { ⌜ PairsAtReady g d z m (operands o (now x) (now y)) (now w) k ⌝ }
+    ensures { λ r. ⌜ SummedAt d m (operands o (now (x .entry)) (now (y .entry))) (now (w .entry)) k (r .lo) (r .hi) ⌝ }
 {
-    if i == 1 {
-        return line_pairs(g, k, w, x, x_in, a, y, y_in, b, n);
+    if o.i == 1 {
+        return line_pairs(g, k, w, x, o.x_in, o.a, y, o.y_in, o.b, o.n);
     }
-    sum_pairs(i, d, z, with_place(m, 0, k), w, x, x_in, a, y, y_in, b, n)
+    let at = with_place(m, 0, k);
+    sum_pairs(o.i, d, z, at, w, x, o.x_in, o.a, y, o.y_in, o.b, o.n)
 }
 
 // The residue of a sum and of what the quotient's coefficients above the k-th, which stand negated, take away.
@@ -155,23 +147,19 @@ pub fn lowest_two(
     e_in: bool,
     ea: usize,
     x: &[i64],
-    x_in: bool,
-    a: usize,
     y: &[i64],
-    y_in: bool,
-    b: usize,
-    n: usize,
+    o: Operands,
     neg: bool,
     keep: bool,
     w: &mut [i64],
     c: usize,
     top: usize,
 )
-    requires { ⌜ (degree d 0 ≡ 2) × ProductReady 1 d z p m (now e) «e_in» ea (two 1 (now x) «x_in» a (now y) «y_in» b n) keep (now w) c top ⌝ }
+    requires { ⌜ (o .i ≡ 1) × (degree d 0 ≡ 2) × ProductReady 1 d z p m (now e) «e_in» ea (operands o (now x) (now y)) keep (now w) c top ⌝ }
     ensures { λ _.
-        ⌜ LowestDone d p m (now (e .entry)) «e_in» ea (two 1 (now (x .entry)) «x_in» a (now (y .entry)) «y_in» b n) neg keep (now (w .entry)) (now (w .exit)) c top ⌝ }
+        ⌜ LowestDone d p m (now (e .entry)) «e_in» ea (operands o (now (x .entry)) (now (y .entry))) neg keep (now (w .entry)) (now (w .exit)) c top ⌝ }
 {
-    let t = three_pairs(w, x, x_in, a, y, y_in, b, n);
+    let t = three_pairs(w, x, o.x_in, o.a, y, o.y_in, o.b, o.n);
     write_at(2, 2, p, e, e_in, ea, neg, keep, w, c, top, t.high);
     write_at(1, 2, p, e, e_in, ea, neg, keep, w, c, top, t.middle);
     write_at(0, 2, p, e, e_in, ea, neg, keep, w, c, top, t.low);
@@ -187,23 +175,19 @@ pub fn lowest_four(
     e_in: bool,
     ea: usize,
     x: &[i64],
-    x_in: bool,
-    a: usize,
     y: &[i64],
-    y_in: bool,
-    b: usize,
-    n: usize,
+    o: Operands,
     neg: bool,
     keep: bool,
     w: &mut [i64],
     c: usize,
     top: usize,
 )
-    requires { ⌜ (degree d 0 ≡ 4) × ProductReady 1 d z p m (now e) «e_in» ea (two 1 (now x) «x_in» a (now y) «y_in» b n) keep (now w) c top ⌝ }
+    requires { ⌜ (o .i ≡ 1) × (degree d 0 ≡ 4) × ProductReady 1 d z p m (now e) «e_in» ea (operands o (now x) (now y)) keep (now w) c top ⌝ }
     ensures { λ _.
-        ⌜ LowestDone d p m (now (e .entry)) «e_in» ea (two 1 (now (x .entry)) «x_in» a (now (y .entry)) «y_in» b n) neg keep (now (w .entry)) (now (w .exit)) c top ⌝ }
+        ⌜ LowestDone d p m (now (e .entry)) «e_in» ea (operands o (now (x .entry)) (now (y .entry))) neg keep (now (w .entry)) (now (w .exit)) c top ⌝ }
 {
-    let t = seven_pairs(w, x, x_in, a, y, y_in, b, n);
+    let t = seven_pairs(w, x, o.x_in, o.a, y, o.y_in, o.b, o.n);
     write_at(6, 4, p, e, e_in, ea, neg, keep, w, c, top, t.third.high);
     write_at(5, 4, p, e, e_in, ea, neg, keep, w, c, top, t.third.middle);
     write_at(4, 4, p, e, e_in, ea, neg, keep, w, c, top, t.third.low);
@@ -215,7 +199,6 @@ pub fn lowest_four(
 
 // Level 1: all coefficients, from top on; below g what the element at c comes to, above that the negated quotient.
 pub fn lowest(
-    i: usize,
     d: [usize; 4],
     z: [usize; 5],
     p: u64,
@@ -224,77 +207,33 @@ pub fn lowest(
     e_in: bool,
     ea: usize,
     x: &[i64],
-    x_in: bool,
-    a: usize,
     y: &[i64],
-    y_in: bool,
-    b: usize,
-    n: usize,
+    o: Operands,
     neg: bool,
     keep: bool,
     w: &mut [i64],
     c: usize,
     top: usize,
 )
-    requires { ⌜ ProductReady 1 d z p m (now e) «e_in» ea (two i (now x) «x_in» a (now y) «y_in» b n) keep (now w) c top ⌝ }
+    requires { ⌜ ProductReady 1 d z p m (now e) «e_in» ea (operands o (now x) (now y)) keep (now w) c top ⌝ }
     ensures { λ _.
-        ⌜ LowestDone d p m (now (e .entry)) «e_in» ea (two i (now (x .entry)) «x_in» a (now (y .entry)) «y_in» b n) neg keep (now (w .entry)) (now (w .exit)) c top ⌝ }
+        ⌜ LowestDone d p m (now (e .entry)) «e_in» ea (operands o (now (x .entry)) (now (y .entry))) neg keep (now (w .entry)) (now (w .exit)) c top ⌝ }
 {
     let g = degree_at(d, 0);
-    if i == 1 {
+    if o.i == 1 {
         if g == 2 {
-            lowest_two(
-                d,
-                z,
-                p,
-                m,
-                e,
-                e_in,
-                ea,
-                x,
-                x_in,
-                a,
-                y,
-                y_in,
-                b,
-                n,
-                neg,
-                keep,
-                w,
-                c,
-                top,
-            );
+            lowest_two(d, z, p, m, e, e_in, ea, x, y, o, neg, keep, w, c, top);
             return;
         }
         if g == 4 {
-            lowest_four(
-                d,
-                z,
-                p,
-                m,
-                e,
-                e_in,
-                ea,
-                x,
-                x_in,
-                a,
-                y,
-                y_in,
-                b,
-                n,
-                neg,
-                keep,
-                w,
-                c,
-                top,
-            );
+            lowest_four(d, z, p, m, e, e_in, ea, x, y, o, neg, keep, w, c, top);
             return;
         }
     }
     let mut k = wide_of(g);
     while 0 < k {
         k -= 1;
-        let s = pairs_at(k, g, i, d, z, m, x, x_in, a, y, y_in, b, n, w);
+        let s = pairs_at(k, g, d, z, m, x, y, o, w);
         write_at(k, g, p, e, e_in, ea, neg, keep, w, c, top, s);
     }
 }
@@ -311,7 +250,6 @@ pub fn leave(i: usize, g: usize, s: usize, w: &mut [i64], c: usize, top: usize)
 // Levels 0 and 1: the element of level j at c gains, or loses where neg, what the pairs come to at the places m; without keep it starts at zero.
 pub fn low_product(
     j: usize,
-    i: usize,
     d: [usize; 4],
     z: [usize; 5],
     p: u64,
@@ -320,47 +258,22 @@ pub fn low_product(
     e_in: bool,
     ea: usize,
     x: &[i64],
-    x_in: bool,
-    a: usize,
     y: &[i64],
-    y_in: bool,
-    b: usize,
-    n: usize,
+    o: Operands,
     neg: bool,
     keep: bool,
     w: &mut [i64],
     c: usize,
     top: usize,
 )
-    requires { ⌜ (j < 2) × ProductReady j d z p m (now e) «e_in» ea (two i (now x) «x_in» a (now y) «y_in» b n) keep (now w) c top ⌝ }
+    requires { ⌜ (j < 2) × ProductReady j d z p m (now e) «e_in» ea (operands o (now x) (now y)) keep (now w) c top ⌝ }
     ensures { λ _.
-        ⌜ ProductDone j d p m (now (e .entry)) «e_in» ea (two i (now (x .entry)) «x_in» a (now (y .entry)) «y_in» b n) neg keep (now (w .entry)) (now (w .exit)) c top ⌝ }
+        ⌜ ProductDone j d p m (now (e .entry)) «e_in» ea (operands o (now (x .entry)) (now (y .entry))) neg keep (now (w .entry)) (now (w .exit)) c top ⌝ }
 {
     if j == 0 {
-        single(i, d, z, p, m, x, x_in, a, y, y_in, b, n, neg, keep, w, c);
+        single(d, z, p, m, x, y, o, neg, keep, w, c);
         return;
     }
-    lowest(
-        i,
-        d,
-        z,
-        p,
-        m,
-        e,
-        e_in,
-        ea,
-        x,
-        x_in,
-        a,
-        y,
-        y_in,
-        b,
-        n,
-        neg,
-        keep,
-        w,
-        c,
-        top,
-    );
+    lowest(d, z, p, m, e, e_in, ea, x, y, o, neg, keep, w, c, top);
     leave(0, degree_at(d, 0), 1, w, c, top);
 }

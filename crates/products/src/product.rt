@@ -5,7 +5,8 @@
 // A product at level j makes the coefficients of its level, each a product one level down, and divides their row by the tower's polynomial; a
 // remainder at level i makes each coefficient by a product. The level falls round every cycle.
 ghost use Prim.Native.Nat.{_≤_};
-ghost use Rattle.products.specs.Product.{two, ProductReady, ProductDone, CoefficientsReady, CoefficientsDone, RemainderReady, RemainderDone};
+ghost use Rattle.products.specs.Product.{operands, ProductReady, ProductDone, CoefficientsReady, CoefficientsDone, RemainderReady, RemainderDone};
+use super::Operands;
 use super::lowest::leave;
 use super::lowest::low_product;
 use arithmetic::places::first_of;
@@ -21,7 +22,6 @@ use tower::store::copy;
 // The element of level j at c gains, or loses where neg, what the pairs come to at the places m; without keep it starts at zero.
 pub fn product(
     j: usize,
-    i: usize,
     d: [usize; 4],
     z: [usize; 5],
     p: u64,
@@ -30,77 +30,28 @@ pub fn product(
     e_in: bool,
     ea: usize,
     x: &[i64],
-    x_in: bool,
-    a: usize,
     y: &[i64],
-    y_in: bool,
-    b: usize,
-    n: usize,
+    o: Operands,
     neg: bool,
     keep: bool,
     w: &mut [i64],
     c: usize,
     top: usize,
 )
-    requires { ⌜ ProductReady j d z p m (now e) «e_in» ea (two i (now x) «x_in» a (now y) «y_in» b n) keep (now w) c top ⌝ }
+    requires { ⌜ ProductReady j d z p m (now e) «e_in» ea (operands o (now x) (now y)) keep (now w) c top ⌝ }
     ensures { λ _.
-        ⌜ ProductDone j d p m (now (e .entry)) «e_in» ea (two i (now (x .entry)) «x_in» a (now (y .entry)) «y_in» b n) neg keep (now (w .entry)) (now (w .exit)) c top ⌝ }
+        ⌜ ProductDone j d p m (now (e .entry)) «e_in» ea (operands o (now (x .entry)) (now (y .entry))) neg keep (now (w .entry)) (now (w .exit)) c top ⌝ }
 {
     if j < 2 {
-        low_product(
-            j,
-            i,
-            d,
-            z,
-            p,
-            m,
-            e,
-            e_in,
-            ea,
-            x,
-            x_in,
-            a,
-            y,
-            y_in,
-            b,
-            n,
-            neg,
-            keep,
-            w,
-            c,
-            top,
-        );
+        low_product(j, d, z, p, m, e, e_in, ea, x, y, o, neg, keep, w, c, top);
         return;
     }
-    high_product(
-        j,
-        i,
-        d,
-        z,
-        p,
-        m,
-        e,
-        e_in,
-        ea,
-        x,
-        x_in,
-        a,
-        y,
-        y_in,
-        b,
-        n,
-        neg,
-        keep,
-        w,
-        c,
-        top,
-    );
+    high_product(j, d, z, p, m, e, e_in, ea, x, y, o, neg, keep, w, c, top);
 }
 
 // From level 2 on: the coefficients of level j - 1, each a product, divided by the tower's polynomial.
 pub fn high_product(
     j: usize,
-    i: usize,
     d: [usize; 4],
     z: [usize; 5],
     p: u64,
@@ -109,74 +60,34 @@ pub fn high_product(
     e_in: bool,
     ea: usize,
     x: &[i64],
-    x_in: bool,
-    a: usize,
     y: &[i64],
-    y_in: bool,
-    b: usize,
-    n: usize,
+    o: Operands,
     neg: bool,
     keep: bool,
     w: &mut [i64],
     c: usize,
     top: usize,
 )
-    requires { ⌜ (2 ≤ j) × ProductReady j d z p m (now e) «e_in» ea (two i (now x) «x_in» a (now y) «y_in» b n) keep (now w) c top ⌝ }
+    requires { ⌜ (2 ≤ j) × ProductReady j d z p m (now e) «e_in» ea (operands o (now x) (now y)) keep (now w) c top ⌝ }
     ensures { λ _.
-        ⌜ ProductDone j d p m (now (e .entry)) «e_in» ea (two i (now (x .entry)) «x_in» a (now (y .entry)) «y_in» b n) neg keep (now (w .entry)) (now (w .exit)) c top ⌝ }
+        ⌜ ProductDone j d p m (now (e .entry)) «e_in» ea (operands o (now (x .entry)) (now (y .entry))) neg keep (now (w .entry)) (now (w .exit)) c top ⌝ }
 {
-    let g = degree_at(d, j - 1);
-    let s = size_at(z, j - 1);
+    let l = j - 1;
+    let g = degree_at(d, l);
+    let s = size_at(z, l);
     let h = wide_of(g);
     let next = part_at(top, h, s);
     let lower = ea + size_at(z, j) + s;
+    let b = ea + 1;
     copy(w, top, c + 1, g * s);
-    coefficients(
-        j - 1,
-        i,
-        d,
-        z,
-        p,
-        m,
-        e,
-        e_in,
-        lower,
-        x,
-        x_in,
-        a,
-        y,
-        y_in,
-        b,
-        n,
-        neg,
-        keep,
-        w,
-        top,
-    );
-    remainder(
-        j - 1,
-        d,
-        z,
-        p,
-        e,
-        e_in,
-        lower,
-        e,
-        e_in,
-        ea + 1,
-        g,
-        w,
-        top,
-        h,
-        next,
-    );
-    leave(j - 1, g, s, w, c, top);
+    coefficients(l, d, z, p, m, e, e_in, lower, x, y, o, neg, keep, w, top);
+    remainder(l, d, z, p, e, e_in, lower, e, e_in, b, g, w, top, h, next);
+    leave(l, g, s, w, c, top);
 }
 
 // The coefficients of level j of such a sum at level j + 1, from top on, where the old content's stand: not yet divided.
 pub fn coefficients(
     j: usize,
-    i: usize,
     d: [usize; 4],
     z: [usize; 5],
     p: u64,
@@ -185,20 +96,16 @@ pub fn coefficients(
     e_in: bool,
     ea: usize,
     x: &[i64],
-    x_in: bool,
-    a: usize,
     y: &[i64],
-    y_in: bool,
-    b: usize,
-    n: usize,
+    o: Operands,
     neg: bool,
     keep: bool,
     w: &mut [i64],
     top: usize,
 )
-    requires { ⌜ CoefficientsReady j d z p m (now e) «e_in» ea (two i (now x) «x_in» a (now y) «y_in» b n) keep (now w) top ⌝ }
+    requires { ⌜ CoefficientsReady j d z p m (now e) «e_in» ea (operands o (now x) (now y)) keep (now w) top ⌝ }
     ensures { λ _.
-        ⌜ CoefficientsDone j d p m (now (e .entry)) «e_in» ea (two i (now (x .entry)) «x_in» a (now (y .entry)) «y_in» b n) neg keep (now (w .entry)) (now (w .exit)) top ⌝ }
+        ⌜ CoefficientsDone j d p m (now (e .entry)) «e_in» ea (operands o (now (x .entry)) (now (y .entry))) neg keep (now (w .entry)) (now (w .exit)) top ⌝ }
 {
     let g = degree_at(d, j);
     let s = size_at(z, j);
@@ -206,29 +113,10 @@ pub fn coefficients(
     let next = part_at(top, h, s);
     let mut k: usize = 0;
     while k < h {
-        product(
-            j,
-            i,
-            d,
-            z,
-            p,
-            with_place(m, j, k),
-            e,
-            e_in,
-            ea,
-            x,
-            x_in,
-            a,
-            y,
-            y_in,
-            b,
-            n,
-            neg,
-            keeps(keep, k, g),
-            w,
-            part_at(top, k, s),
-            next,
-        );
+        let at = with_place(m, j, k);
+        let kept = keeps(keep, k, g);
+        let c = part_at(top, k, s);
+        product(j, d, z, p, at, e, e_in, ea, x, y, o, neg, kept, w, c, next);
         k += 1;
     }
 }
@@ -262,28 +150,15 @@ pub fn remainder(
         let f = part_at(b, first_of(cap - g, k), s);
         let q = part_at(a, g + first_of(g, k), s);
         let n = span_of(g, cap - g, k);
-        product(
-            i,
-            i,
-            d,
-            z,
-            p,
-            m,
-            e,
-            e_in,
-            ea,
-            y,
-            y_in,
-            f,
-            e,
-            true,
-            q,
-            n,
-            true,
-            true,
-            w,
-            part_at(a, k, s),
-            top,
-        );
+        let c = part_at(a, k, s);
+        let o = Operands {
+            i: i,
+            x_in: y_in,
+            a: f,
+            y_in: true,
+            b: q,
+            n: n,
+        };
+        product(i, d, z, p, m, e, e_in, ea, y, e, o, true, true, w, c, top);
     }
 }

@@ -1,6 +1,7 @@
 // Division in place by a polynomial whose leading coefficient has a known inverse: the remainder's loop, where each coefficient of the quotient is
 // multiplied by the inverse as soon as it is made.
 ghost use Rattle.products.specs.Unit.{ScaleReady, ScaleDone, UnitReady, UnitDone};
+use super::Operands;
 use super::product::product;
 use arithmetic::places::first_of;
 use arithmetic::places::part_at;
@@ -32,29 +33,15 @@ pub fn scale_at(
     if k < g {
         return;
     }
-    product(
-        i,
-        i,
-        d,
-        z,
-        p,
-        m,
-        e,
-        e_in,
-        ea,
-        u,
-        u_in,
-        h,
-        e,
-        true,
-        c,
-        1,
-        false,
-        false,
-        w,
-        c,
-        top,
-    );
+    let o = Operands {
+        i: i,
+        x_in: u_in,
+        a: h,
+        y_in: true,
+        b: c,
+        n: 1,
+    };
+    product(i, d, z, p, m, e, e_in, ea, u, e, o, false, false, w, c, top);
 }
 
 // Divides the cap coefficients of level i at a in place by the polynomial with the g coefficients at b under a leading one whose inverse stands at h: the
@@ -91,29 +78,15 @@ pub fn unit_remainder(
         let q = part_at(a, g + first_of(g, k), s);
         let n = span_of(g, cap - g, k);
         let c = part_at(a, k, s);
-        product(
-            i,
-            i,
-            d,
-            z,
-            p,
-            m,
-            e,
-            e_in,
-            ea,
-            y,
-            y_in,
-            f,
-            e,
-            true,
-            q,
-            n,
-            true,
-            true,
-            w,
-            c,
-            top,
-        );
+        let o = Operands {
+            i: i,
+            x_in: y_in,
+            a: f,
+            y_in: true,
+            b: q,
+            n: n,
+        };
+        product(i, d, z, p, m, e, e_in, ea, y, e, o, true, true, w, c, top);
         scale_at(k, g, i, d, z, p, m, e, e_in, ea, u, u_in, h, w, c, top);
     }
 }

@@ -7,6 +7,7 @@ use super::numbers::times_numbers;
 use arithmetic::places::first_of;
 use arithmetic::places::part_at;
 use arithmetic::places::span_of;
+use products::Operands;
 use products::product::product;
 use products::unit::unit_remainder;
 use tower::sizes::size_at;
@@ -33,29 +34,16 @@ pub fn times(
         times_numbers(p, a, b, w, c);
         return;
     }
-    product(
-        i,
-        i,
-        d,
-        z,
-        p,
-        [0usize; 4],
-        e,
-        e_in,
-        ea,
-        e,
-        true,
-        a,
-        e,
-        true,
-        b,
-        1,
-        false,
-        false,
-        w,
-        c,
-        top,
-    );
+    let m = [0usize; 4];
+    let o = Operands {
+        i: i,
+        x_in: true,
+        a: a,
+        y_in: true,
+        b: b,
+        n: 1,
+    };
+    product(i, d, z, p, m, e, e_in, ea, e, e, o, false, false, w, c, top);
 }
 
 // Each of the n elements of level i from c on is multiplied by the one at u.
@@ -120,29 +108,17 @@ pub fn lose_product(
         let x = part_at(a, first_of(n, k), s);
         let y = part_at(b, first_of(m, k), s);
         let q = span_of(m, n, k);
-        product(
-            i,
-            i,
-            d,
-            z,
-            p,
-            [0usize; 4],
-            e,
-            e_in,
-            ea,
-            e,
-            true,
-            x,
-            e,
-            true,
-            y,
-            q,
-            true,
-            true,
-            w,
-            part_at(c, k, s),
-            top,
-        );
+        let at = part_at(c, k, s);
+        let l = [0usize; 4];
+        let o = Operands {
+            i: i,
+            x_in: true,
+            a: x,
+            y_in: true,
+            b: y,
+            n: q,
+        };
+        product(i, d, z, p, l, e, e_in, ea, e, e, o, true, true, w, at, top);
         k += 1;
     }
 }

@@ -1,5 +1,5 @@
 -- `products::lowest::lowest_four` meets its contract: each coefficient is written after those above it. Assumes nothing.
-use mathlib.Core.Path.{refl, sym}
+use mathlib.Core.Path.{sym}
 use Rattle.products.proofs.AtOnce.{once-asks, at-once}
 use Rattle.products.proofs.lowest.lowest_four.Statement.{statement}
 use Rattle.products.proofs.lowest.lowest_four.Tie as tie
@@ -7,13 +7,13 @@ use Rattle.products.proofs.lowest.lowest_four.Tie as tie
 seven-pairs-requires : tie.Need-seven-pairs-requires
 seven-pairs-requires c κs =
     let s = c .before in
-    once-asks (s .pre .1) refl (sym (s .pre .0)) (s .args .neg)
+    once-asks (s .pre .2) (s .pre .0) (sym (s .pre .1)) (s .args .neg)
 
 write-at-requires : tie.Need-write-at-requires
 write-at-requires c κs =
     let v = c .before in
     let s = v .before .before in
-    let once = at-once (s .pre .1) refl (sym (s .pre .0)) (s .args .neg) (v .seven-pairs .ensures) in
+    let once = at-once (s .pre .2) (s .pre .0) (sym (s .pre .1)) (s .args .neg) (v .seven-pairs .ensures) in
     once .writes 6 (once .start)
 
 write-at-requires-2 : tie.Need-write-at-requires-2
@@ -21,7 +21,7 @@ write-at-requires-2 c κs =
     let w1 = c .before .before in
     let v = w1 .before .before in
     let s = v .before .before in
-    let once = at-once (s .pre .1) refl (sym (s .pre .0)) (s .args .neg) (v .seven-pairs .ensures) in
+    let once = at-once (s .pre .2) (s .pre .0) (sym (s .pre .1)) (s .args .neg) (v .seven-pairs .ensures) in
     let from6 = once .next 6 (once .start) (w1 .write-at .ensures) in
     once .writes 5 from6
 
@@ -31,7 +31,7 @@ write-at-requires-3 c κs =
     let w1 = w2 .before .before .before in
     let v = w1 .before .before in
     let s = v .before .before in
-    let once = at-once (s .pre .1) refl (sym (s .pre .0)) (s .args .neg) (v .seven-pairs .ensures) in
+    let once = at-once (s .pre .2) (s .pre .0) (sym (s .pre .1)) (s .args .neg) (v .seven-pairs .ensures) in
     let from6 = once .next 6 (once .start) (w1 .write-at .ensures) in
     let from5 = once .next 5 from6 (w2 .write-at2 .ensures) in
     once .writes 4 from5
@@ -43,7 +43,7 @@ write-at-requires-4 c κs =
     let w1 = w2 .before .before .before in
     let v = w1 .before .before in
     let s = v .before .before in
-    let once = at-once (s .pre .1) refl (sym (s .pre .0)) (s .args .neg) (v .seven-pairs .ensures) in
+    let once = at-once (s .pre .2) (s .pre .0) (sym (s .pre .1)) (s .args .neg) (v .seven-pairs .ensures) in
     let from6 = once .next 6 (once .start) (w1 .write-at .ensures) in
     let from5 = once .next 5 from6 (w2 .write-at2 .ensures) in
     let from4 = once .next 4 from5 (w3 .write-at3 .ensures) in
@@ -57,7 +57,7 @@ write-at-requires-5 c κs =
     let w1 = w2 .before .before .before in
     let v = w1 .before .before in
     let s = v .before .before in
-    let once = at-once (s .pre .1) refl (sym (s .pre .0)) (s .args .neg) (v .seven-pairs .ensures) in
+    let once = at-once (s .pre .2) (s .pre .0) (sym (s .pre .1)) (s .args .neg) (v .seven-pairs .ensures) in
     let from6 = once .next 6 (once .start) (w1 .write-at .ensures) in
     let from5 = once .next 5 from6 (w2 .write-at2 .ensures) in
     let from4 = once .next 4 from5 (w3 .write-at3 .ensures) in
@@ -73,7 +73,7 @@ write-at-requires-6 c κs =
     let w1 = w2 .before .before .before in
     let v = w1 .before .before in
     let s = v .before .before in
-    let once = at-once (s .pre .1) refl (sym (s .pre .0)) (s .args .neg) (v .seven-pairs .ensures) in
+    let once = at-once (s .pre .2) (s .pre .0) (sym (s .pre .1)) (s .args .neg) (v .seven-pairs .ensures) in
     let from6 = once .next 6 (once .start) (w1 .write-at .ensures) in
     let from5 = once .next 5 from6 (w2 .write-at2 .ensures) in
     let from4 = once .next 4 from5 (w3 .write-at3 .ensures) in
@@ -91,7 +91,7 @@ write-at-requires-7 c κs =
     let w1 = w2 .before .before .before in
     let v = w1 .before .before in
     let s = v .before .before in
-    let once = at-once (s .pre .1) refl (sym (s .pre .0)) (s .args .neg) (v .seven-pairs .ensures) in
+    let once = at-once (s .pre .2) (s .pre .0) (sym (s .pre .1)) (s .args .neg) (v .seven-pairs .ensures) in
     let from6 = once .next 6 (once .start) (w1 .write-at .ensures) in
     let from5 = once .next 5 from6 (w2 .write-at2 .ensures) in
     let from4 = once .next 4 from5 (w3 .write-at3 .ensures) in
@@ -111,7 +111,7 @@ same-length c =
     let w1 = w2 .before .before .before in
     let v = w1 .before .before in
     let s = v .before .before in
-    let once = at-once (s .pre .1) refl (sym (s .pre .0)) (s .args .neg) (v .seven-pairs .ensures) in
+    let once = at-once (s .pre .2) (s .pre .0) (sym (s .pre .1)) (s .args .neg) (v .seven-pairs .ensures) in
     let from6 = once .next 6 (once .start) (w1 .write-at .ensures) in
     let from5 = once .next 5 from6 (w2 .write-at2 .ensures) in
     let from4 = once .next 4 from5 (w3 .write-at3 .ensures) in
@@ -132,7 +132,7 @@ returns c =
     let w1 = w2 .before .before .before in
     let v = w1 .before .before in
     let s = v .before .before in
-    let once = at-once (s .pre .1) refl (sym (s .pre .0)) (s .args .neg) (v .seven-pairs .ensures) in
+    let once = at-once (s .pre .2) (s .pre .0) (sym (s .pre .1)) (s .args .neg) (v .seven-pairs .ensures) in
     let from6 = once .next 6 (once .start) (w1 .write-at .ensures) in
     let from5 = once .next 5 from6 (w2 .write-at2 .ensures) in
     let from4 = once .next 4 from5 (w3 .write-at3 .ensures) in

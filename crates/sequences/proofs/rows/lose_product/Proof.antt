@@ -80,10 +80,10 @@ span-of-requires c κs =
 
 part-at-requires-3 : tie.Need-part-at-requires-3 Inv-loop μ-loop
 part-at-requires-3 c κs =
-    let s = c .before .before .before .before .before .before .before .before .before .before in
-    let size-at = c .before .before .before .before .before .before .before .before .size-at in
-    let loop = c .before .before .before .before .before .before .before .loop in
-    let loop-test = c .before .before .before .before .before .before .loop-test in
+    let s = c .before .before .before .before .before .before .before .before .before in
+    let size-at = c .before .before .before .before .before .before .before .size-at in
+    let loop = c .before .before .before .before .before .before .loop in
+    let loop-test = c .before .before .before .before .before .loop-test in
     omega (arith, losing-here (s .pre) (loop .inv) (loop-test .taken) (acting-size (s .pre .acting) (size-at .ensures)), s .good)
 
 product-requires : tie.Need-product-requires Inv-loop μ-loop
@@ -98,7 +98,7 @@ product-requires c κs =
     let part-at2 = c .before .before .before .part-at2 in
     let span-of = c .before .before .span-of in
     let words = acting-size (s .pre .acting) (size-at .ensures) in
-    let places = met words (part-at .ensures) (first-of .ensures) (part-at2 .ensures) (first-of2 .ensures) (span-of .ensures) (c .part-at3 .ensures) in
+    let places = met words (part-at .ensures) (first-of .ensures) (part-at2 .ensures) (first-of2 .ensures) (span-of .ensures) (c .before .part-at3 .ensures) in
     losing-asks (s .pre) (loop .inv) (loop-test .taken) refl places
 
 add-k : tie.Need-add-k Inv-loop μ-loop
@@ -122,7 +122,7 @@ loop-again c =
     let first-of2 = c .before .before .before .before .before .before .first-of2 in
     let part-at2 = c .before .before .before .before .before .part-at2 in
     let span-of = c .before .before .before .before .span-of in
-    let part-at3 = c .before .before .part-at3 in
+    let part-at3 = c .before .before .before .part-at3 in
     let product = c .before .product in
     let words = acting-size (s .pre .acting) (size-at .ensures) in
     let places = met words (part-at .ensures) (first-of .ensures) (part-at2 .ensures) (first-of2 .ensures) (span-of .ensures) (part-at3 .ensures) in

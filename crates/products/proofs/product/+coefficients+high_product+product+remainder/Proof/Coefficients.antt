@@ -4,7 +4,7 @@ use mathlib.Core.Path.{_≡_, refl, ap, _∙_}
 use native.Mathlib.Omega.{arith}
 use Rattle.tower.specs.Writing.{size}
 use Rattle.arithmetic.specs.Places.{keepsAt, wide}
-use Rattle.products.specs.Product.{two}
+use Rattle.products.specs.Product.{operands}
 use Rattle.products.proofs.Frames.{part-is}
 use Rattle.products.proofs.Fillings.{Filling, filling-places, filling-start, filling-at, filling-asks, filling-next, filling-end}
 use borrow.Author.Needs.{needs}
@@ -38,11 +38,11 @@ cs t = (
 )
 
 abbrev Inv-loop : coefficients-lts.InvT-loop
-Inv-loop j i d z p m e e-in ea x x-in a y y-in b n neg keep w₀ top g s h next k₀ w k =
-    Filling j d p m e e-in ea (two i x x-in a y y-in b n) neg keep w₀ top k w
+Inv-loop j d z p m e e-in ea x y o neg keep w₀ top g s h next k₀ w k =
+    Filling j d p m e e-in ea (operands o x y) neg keep w₀ top k w
 
 abbrev μ-loop : coefficients-lts.MeasureT-loop
-μ-loop j i d z p m e e-in ea x x-in a y y-in b n neg keep w₀ top g s h next k₀ w k = h - k
+μ-loop j d z p m e e-in ea x y o neg keep w₀ top g s h next k₀ w k = h - k
 
 degree-at-requires : (t : ℕ) → coefficients-lts.Need-degree-at-requires (cs t) (coefficients-at t) coefficients.Post Inv-loop μ-loop
 degree-at-requires t c κs =
@@ -87,12 +87,12 @@ keeps-requires t c κs =
 
 part-at-requires-2 : (t : ℕ) → coefficients-lts.Need-part-at-requires-2 (cs t) (coefficients-at t) coefficients.Post Inv-loop μ-loop
 part-at-requires-2 t c κs =
-    let s = c .before .before .before .before .before .before .before .before .before in
-    let degree-at = c .before .before .before .before .before .before .before .before .degree-at in
-    let size-at = c .before .before .before .before .before .before .before .size-at in
-    let wide-of = c .before .before .before .before .before .before .wide-of in
-    let loop = c .before .before .before .before .loop in
-    let loop-test = c .before .before .before .loop-test in
+    let s = c .before .before .before .before .before .before .before .before in
+    let degree-at = c .before .before .before .before .before .before .before .degree-at in
+    let size-at = c .before .before .before .before .before .before .size-at in
+    let wide-of = c .before .before .before .before .before .wide-of in
+    let loop = c .before .before .before .loop in
+    let loop-test = c .before .before .loop-test in
     let es : size-at .result ≡ size (s .args .d) (s .args .j) =
     size-at .ensures ∙ s .pre .1 .operating .sized .at (s .args .j) (omega (arith, filling-places (s .pre .1))) in
     let here = part-is (s .args .top + loop .k * size-at .result) (s .args .top) (loop .k) (size-at .result) refl refl es in
@@ -109,7 +109,7 @@ product-requires t c κs =
     let loop-test = c .before .before .before .before .loop-test in
     let with-place = c .before .before .before .with-place in
     let keeps = c .before .before .keeps in
-    let part-at2 = c .part-at2 in
+    let part-at2 = c .before .part-at2 in
     let es : size-at .result ≡ size (s .args .d) (s .args .j) =
     size-at .ensures ∙ s .pre .1 .operating .sized .at (s .args .j) (omega (arith, filling-places (s .pre .1))) in (
       omega (arith, s .pre .0),
@@ -139,7 +139,7 @@ loop-again t c =
     let loop-test = c .before .before .before .before .before .before .loop-test in
     let with-place = c .before .before .before .before .before .with-place in
     let keeps = c .before .before .before .before .keeps in
-    let part-at2 = c .before .before .part-at2 in
+    let part-at2 = c .before .before .before .part-at2 in
     let product = c .before .product in
     let es : size-at .result ≡ size (s .args .d) (s .args .j) =
     size-at .ensures ∙ s .pre .1 .operating .sized .at (s .args .j) (omega (arith, filling-places (s .pre .1))) in

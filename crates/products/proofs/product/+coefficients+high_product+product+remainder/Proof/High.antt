@@ -37,8 +37,8 @@ cs t = (
   leave-reads.Learnt,
 )
 
-sub-degree-at : (t : ℕ) → high-product-lts.Need-sub-degree-at (cs t) (high-product-at t) high-product.Post
-sub-degree-at t c =
+sub-l : (t : ℕ) → high-product-lts.Need-sub-l (cs t) (high-product-at t) high-product.Post
+sub-l t c =
     let s = c in
     product-level (s .pre .1) .0
 
@@ -46,11 +46,6 @@ degree-at-requires : (t : ℕ) → high-product-lts.Need-degree-at-requires (cs 
 degree-at-requires t c κs =
     let s = c in
     omega (arith, product-level (s .pre .1))
-
-sub-size-at : (t : ℕ) → high-product-lts.Need-sub-size-at (cs t) (high-product-at t) high-product.Post
-sub-size-at t c =
-    let s = c .before in
-    product-level (s .pre .1) .0
 
 size-at-requires : (t : ℕ) → high-product-lts.Need-size-at-requires (cs t) (high-product-at t) high-product.Post
 size-at-requires t c κs =
@@ -94,6 +89,14 @@ add-lower-2 t c =
     let long = pick-long (s .args .e-in) (s .args .w .now) (s .args .e .now) (2 ^ 63) (omega (arith, s .good)) (omega (arith, s .good)) in
     record { fits = omega (arith, product-lower (s .pre .1) (size-at .ensures) (size-at2 .ensures), long) }
 
+add-b : (t : ℕ) → high-product-lts.Need-add-b (cs t) (high-product-at t) high-product.Post
+add-b t c =
+    let s = c .before .before .before .before .before in
+    let size-at = c .before .before .before .size-at in
+    let size-at2 = c .size-at2 in
+    let long = pick-long (s .args .e-in) (s .args .w .now) (s .args .e .now) (2 ^ 63) (omega (arith, s .good)) (omega (arith, s .good)) in
+    record { fits = omega (arith, product-lower (s .pre .1) (size-at .ensures) (size-at2 .ensures), long) }
+
 add-copy : (t : ℕ) → high-product-lts.Need-add-copy (cs t) (high-product-at t) high-product.Post
 add-copy t c =
     let s = c .before .before .before .before .before .before in
@@ -116,11 +119,6 @@ copy-requires t c κs =
     let places = product-places (s .pre .1) (size-at .ensures) (degree-at .ensures) in
     ((omega (arith, places), omega (arith, places)), inr (omega (arith, places)))
 
-sub-coefficients : (t : ℕ) → high-product-lts.Need-sub-coefficients (cs t) (high-product-at t) high-product.Post
-sub-coefficients t c =
-    let s = c .before .before .before .before .before .before .before .before in
-    product-level (s .pre .1) .0
-
 coefficients-requires : (t : ℕ) → high-product-lts.Need-coefficients-requires (cs t) (high-product-at t) high-product.Post
 coefficients-requires t c κs =
     let s = c .before .before .before .before .before .before .before .before .before in
@@ -129,19 +127,6 @@ coefficients-requires t c κs =
     let size-at2 = c .before .before .before .before .size-at2 in
     let copy = c .before .before .copy in
     (omega (arith, s .pre .0, product-level (s .pre .1)), coefficients-asks (s .pre .1) (size-at .ensures) (degree-at .ensures) (size-at2 .ensures) (copy .ensures))
-
-sub-remainder : (t : ℕ) → high-product-lts.Need-sub-remainder (cs t) (high-product-at t) high-product.Post
-sub-remainder t c =
-    let s = c .before .before .before .before .before .before .before .before .before .before .before in
-    product-level (s .pre .1) .0
-
-add-remainder : (t : ℕ) → high-product-lts.Need-add-remainder (cs t) (high-product-at t) high-product.Post
-add-remainder t c =
-    let s = c .before .before .before .before .before .before .before .before .before .before .before in
-    let size-at = c .before .before .before .before .before .before .before .before .before .size-at in
-    let size-at2 = c .before .before .before .before .before .before .size-at2 in
-    let long = pick-long (s .args .e-in) (s .args .w .now) (s .args .e .now) (2 ^ 63) (omega (arith, s .good)) (omega (arith, s .good)) in
-    record { fits = omega (arith, product-lower (s .pre .1) (size-at .ensures) (size-at2 .ensures), long) }
 
 remainder-requires : (t : ℕ) → high-product-lts.Need-remainder-requires (cs t) (high-product-at t) high-product.Post
 remainder-requires t c κs =
@@ -157,11 +142,6 @@ remainder-requires t c κs =
       remainder-asks (s .pre .1) (size-at .ensures) (degree-at .ensures) (size-at2 .ensures) (copy .ensures)
           (coefficients .ensures) (wide-of .ensures) (part-at .ensures),
     )
-
-sub-leave : (t : ℕ) → high-product-lts.Need-sub-leave (cs t) (high-product-at t) high-product.Post
-sub-leave t c =
-    let s = c .before .before .before .before .before .before .before .before .before .before .before .before .before .before in
-    product-level (s .pre .1) .0
 
 leave-requires : (t : ℕ) → high-product-lts.Need-leave-requires (cs t) (high-product-at t) high-product.Post
 leave-requires t c κs =
@@ -210,24 +190,20 @@ returns t c =
 pub high-product-closed : {M : Type 1} (t : ℕ) → high-product-lts.Closed (cs t) (high-product-at t) high-product.Post M
 high-product-closed t =
     high-product-lts.spec (cs t) (high-product-at t) high-product.Post
-    (sub-degree-at t)
+    (sub-l t)
     (degree-at-requires t)
-    (sub-size-at t)
     (size-at-requires t)
     (wide-of-requires t)
     (part-at-requires t)
     (size-at-requires-2 t)
     (add-lower t)
     (add-lower-2 t)
+    (add-b t)
     (add-copy t)
     (mul-copy t)
     (copy-requires t)
-    (sub-coefficients t)
     (coefficients-requires t)
-    (sub-remainder t)
-    (add-remainder t)
     (remainder-requires t)
-    (sub-leave t)
     (leave-requires t)
     (same-length t)
     (returns t)

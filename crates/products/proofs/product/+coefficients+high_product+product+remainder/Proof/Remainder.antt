@@ -117,10 +117,10 @@ span-of-requires t c κs =
 
 part-at-requires-3 : (t : ℕ) → remainder-lts.Need-part-at-requires-3 (cs t) (remainder-at t) remainder.Post Inv-loop μ-loop
 part-at-requires-3 t c κs =
-    let s = c .before .before .before .before .before .before .before .before .before in
-    let size-at = c .before .before .before .before .before .before .before .before .size-at in
-    let loop = c .before .before .before .before .before .before .before .loop in
-    let loop-test = c .before .before .before .before .before .before .loop-test in
+    let s = c .before .before .before .before .before .before .before .before in
+    let size-at = c .before .before .before .before .before .before .before .size-at in
+    let loop = c .before .before .before .before .before .before .loop in
+    let loop-test = c .before .before .before .before .before .loop-test in
     omega (arith, falling-here (s .pre .1) (loop-test .taken) (loop .inv) (size-at .ensures ∙ s .pre .1 .sized .at (s .args .i) (s .pre .1 .low)), s .good)
 
 product-requires : (t : ℕ) → remainder-lts.Need-product-requires (cs t) (remainder-at t) remainder.Post Inv-loop μ-loop
@@ -134,7 +134,7 @@ product-requires t c κs =
     let first-of2 = c .before .before .before .before .first-of2 in
     let part-at2 = c .before .before .before .part-at2 in
     let span-of = c .before .before .span-of in
-    let part-at3 = c .part-at3 in (
+    let part-at3 = c .before .part-at3 in (
       omega (arith, s .pre .0),
       falling-asks (s .pre .1) (loop-test .taken) (loop .inv) (stood-now (s .pre .1)) refl
           (counted (size-at .ensures ∙ s .pre .1 .sized .at (s .args .i) (s .pre .1 .low))
@@ -157,7 +157,7 @@ loop-again t c =
     let first-of2 = c .before .before .before .before .before .before .first-of2 in
     let part-at2 = c .before .before .before .before .before .part-at2 in
     let span-of = c .before .before .before .before .span-of in
-    let part-at3 = c .before .before .part-at3 in
+    let part-at3 = c .before .before .before .part-at3 in
     let product = c .before .product in
     row-next (s .pre .1) (loop-test .taken) (loop .inv) refl
     (counted (size-at .ensures ∙ s .pre .1 .sized .at (s .args .i) (s .pre .1 .low))
