@@ -32,11 +32,11 @@ use Rattle.sequences.specs.declared.Outcome.{Outcome}
 use Rattle.sequences.specs.declared.Outcome.the-variants.{Done, Factor, Long}
 use Rattle.sequences.specs.Starts.{slot, BeginReady, Begun, BeginDone}
 use Rattle.sequences.specs.Outcomes.{RunReady, RunDone, InvertReady, InvertDone, Came, Reached}
+use Rattle.sequences.specs.Passes.{underOf, nextOf, levelOf, Clear, Laid, Looping}
 use Rattle.sequences.proofs.AnswerLaws.{came-done, came-factor, came-long}
-use Rattle.sequences.proofs.PlaceLaws.{Clear, worked-apart, stands-same, elements-same, Laid, laid-start}
+use Rattle.sequences.proofs.PlaceLaws.{worked-apart, stands-same, elements-same, laid-start}
 use Rattle.sequences.proofs.TurnLaws.{turn-start}
-use Rattle.sequences.proofs.RunLaws.{underOf, nextOf, levelOf, run-some, run-room, run-stands, run-acting, run-done, shown-above}
-use Rattle.sequences.proofs.StateLaws.{Looping}
+use Rattle.sequences.proofs.RunLaws.{run-some, run-room, run-stands, run-acting, run-done, shown-above}
 
 -- an element of degree n - 1, its coefficients u under the leading c
 pub record Leads (p : ℕ) (p-pos : 0 < p) (d : List ℕ) (h : ℕ) (v : El p d (suc h)) (n : ℕ) : Type 0 where
@@ -149,14 +149,13 @@ module _ {h : ℕ} {d z : List ℕ} {p : ℕ} {e : List ℤ} {e-in : Bool} {ea :
       carried-same y = same-part (omega arith) (omega arith) y
 
       pub begin-going : c ≡ Done → Looping h d z p e e-in ea x x-in a w₀ top (top + 1) (top + 2 * slot d h + 1) (top + 4 * slot d h) (g + 1)
-          (top + slot d h + 1) (top + 3 * slot d h + 1) (top + 4 * slot d h + s) n (g + 2) w₂
+          (top + slot d h + 1) (top + 3 * slot d h + 1) (top + 4 * slot d h + s) n w₂
       begin-going ec =
           let k = came-done p (r .p-pos) d h (r .t .0) w₂ (top + 4 * slot d h + s) c ec (inv p (r .p-pos) d h (r .t .0) (q .c)) came in
           record {
             ready = r;
             frame = begin-frame;
             laid = laid;
-            few = omega (arith, begin-counts);
             state = inl (record {
               f = modulus (levelOf r) g (r .t .1);
               k = element (levelOf r) g (r .t .1) (q .e) (q .u) (q .c) (k .0);

@@ -26,11 +26,11 @@ use Rattle.sequences.specs.declared.Ended.the-variants.{Inverse, Divisor
 use Rattle.sequences.specs.Rows.{ScaleRowReady, ScaleRowDone}
 use Rattle.sequences.specs.Starts.{FinishReady, FinishDone}
 use Rattle.sequences.specs.Outcomes.{RunReady, RunDone, Above, Reached}
+use Rattle.sequences.specs.Passes.{underOf, nextOf, levelOf, Going, Zero, Looping}
 use Rattle.sequences.proofs.PlaceLaws.{clear-swap, apart-in, work≤inverse}
 use Rattle.sequences.proofs.StartLaws.{finish-frame, finish-element}
 use Rattle.sequences.proofs.TurnLaws.{turn-done}
-use Rattle.sequences.proofs.RunLaws.{underOf, nextOf, levelOf, run-room, run-tower, run-stands, run-acting, run-done}
-use Rattle.sequences.proofs.StateLaws.{Going, Zero, Looping}
+use Rattle.sequences.proofs.RunLaws.{run-room, run-tower, run-stands, run-acting, run-done}
 
 -- each coefficient times a constant
 module _ (R : CRing) where
@@ -38,7 +38,7 @@ module _ (R : CRing) where
   scaled-at n u y = ap (trunc n) (fun-ext (λ j. sym (coef-scale R n u y j))) ∙ trunc-coef (R .𝟘) n (scaleᵛ R n u y)
 
 module _ {h : ℕ} {d z : List ℕ} {p : ℕ} {e : List ℤ} {e-in : Bool} {ea : ℕ} {x : List ℤ} {x-in : Bool} {a : ℕ} {w₀ : List ℤ} {top : ℕ}
-    {fr fc fu fn kr kc ku kn left : ℕ} {w : List ℤ} (s : Looping h d z p e e-in ea x x-in a w₀ top fr fc fu fn kr kc ku kn left w) where
+    {fr fc fu fn kr kc ku kn : ℕ} {w : List ℤ} (s : Looping h d z p e e-in ea x x-in a w₀ top fr fc fu fn kr kc ku kn w) where
   abbrev r : RunReady (suc h) d z p e e-in ea x x-in a w₀ top
   r = s .ready
 

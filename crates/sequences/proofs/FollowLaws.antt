@@ -35,8 +35,9 @@ use Rattle.sequences.specs.declared.Turn.{Turn}
 use Rattle.sequences.specs.declared.Turn.the-variants.{Next, Shows, Over}
 use Rattle.sequences.specs.Rows.{Acting, Between, TimesReady, TimesDone}
 use Rattle.sequences.specs.Outcomes.{InvertReady, InvertDone, Came, FollowReady, FollowDone, Followed, Follows, Besides}
+use Rattle.sequences.specs.Passes.{Clear}
 use Rattle.sequences.proofs.AnswerLaws.{came-done, came-factor, came-long}
-use Rattle.sequences.proofs.PlaceLaws.{Clear, worked-apart, stands-same, work≤inverse, besides-refl, besides-left, besides-right, besides-trans}
+use Rattle.sequences.proofs.PlaceLaws.{worked-apart, stands-same, work≤inverse, besides-refl, besides-left, besides-right, besides-trans}
 
 module _ {i : ℕ} {d z : List ℕ} {p : ℕ} {e : List ℤ} {e-in : Bool} {ea row n unit : ℕ} {w₀ : List ℤ} {top : ℕ}
     (r : FollowReady i d z p e e-in ea row n unit w₀ top) where

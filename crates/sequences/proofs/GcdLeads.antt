@@ -38,7 +38,8 @@ use Rattle.sequences.specs.declared.Outcome.{Outcome}
 use Rattle.sequences.specs.declared.Outcome.the-variants.{Done, Factor, Long}
 use Rattle.sequences.specs.Outcomes.{Came, FactorStands}
 use Rattle.sequences.specs.Gcds.{Sited, Upwards, Polynomial, LeadReady, LeadDone, LedStands}
-use Rattle.sequences.proofs.PlaceLaws.{Clear, clear-swap, worked-apart, stands-same, elements-same}
+use Rattle.sequences.specs.Passes.{Clear}
+use Rattle.sequences.proofs.PlaceLaws.{clear-swap, worked-apart, stands-same, elements-same}
 use Rattle.sequences.proofs.GcdPlaces.{sited-less, up-worked, tower-worked}
 
 -- ---- n coefficients, the last of which is not zero

@@ -23,7 +23,8 @@ use Rattle.products.proofs.Frames.{inside-kept, picked-seg, worked-kept}
 use Rattle.sequences.specs.Rows.{Acting, Between}
 use Rattle.sequences.specs.Outcomes.{Besides}
 use Rattle.sequences.specs.Gcds.{Placed, Sited, Upwards}
-use Rattle.sequences.proofs.PlaceLaws.{Clear, clear-swap, apart-in, worked-apart, besides-apart, besides-kept, work≤inverse}
+use Rattle.sequences.specs.Passes.{Clear}
+use Rattle.sequences.proofs.PlaceLaws.{clear-swap, apart-in, worked-apart, besides-apart, besides-kept, work≤inverse}
 
 -- ---- runs
 between-swap : (a n b m : ℕ) → Between a n b m → Between b m a n

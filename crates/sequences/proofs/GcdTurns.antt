@@ -36,7 +36,8 @@ use Rattle.sequences.specs.declared.Turn.the-variants.{Next, Shows, Over
 use Rattle.sequences.specs.Rows.{DivideReady, DivideDone}
 use Rattle.sequences.specs.Outcomes.{FollowReady, FollowDone, Followed, Follows}
 use Rattle.sequences.specs.Gcds.{Sited, Upwards, Finds, LedStands, Sought}
-use Rattle.sequences.proofs.PlaceLaws.{Clear, clear-swap, clear-in, clear-up, apart-in, worked-apart, besides-apart, same-trans}
+use Rattle.sequences.specs.Passes.{Clear}
+use Rattle.sequences.proofs.PlaceLaws.{clear-swap, clear-in, clear-up, apart-in, worked-apart, besides-apart, same-trans}
 use Rattle.sequences.proofs.PlaceLaws.{stands-same, elements-same, work≤inverse}
 use Rattle.sequences.proofs.GcdPlaces.{sited-acting, up-trans, up-worked, up-besides, tower-worked, tower-besides}
 

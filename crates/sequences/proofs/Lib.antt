@@ -18,6 +18,8 @@ pub mod FollowLaws
 pub mod FollowNumbers
 pub mod InvertLaws
 pub mod RunWords
+pub mod PassLaws
+pub mod PassSteps
 pub mod GcdPlaces
 pub mod GcdTurns
 pub mod GcdLaws

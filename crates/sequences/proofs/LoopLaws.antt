@@ -1,6 +1,5 @@
 -- Laws of one turn in the store: the row of f is divided by k's, what f carries loses the quotient times what k carries, and the remainder follows.
 --
--- Stood          == a polynomial of the sequence stands at its three places
 -- turn-divide, turn-lose, turn-follow == what the three steps ask for
 -- turn-frame     == what has changed;  turn-followed == what the remainder comes to
 -- turn-keeps, turn-stands == k stands as before, and what follows it at f's old places
@@ -33,16 +32,11 @@ use Rattle.euclid.specs.Lazy.{Led, led, whole, rest, quot}
 use Rattle.sequences.specs.declared.Turn.{Turn}
 use Rattle.sequences.specs.Rows.{DivideReady, DivideDone, LoseReady, LoseDone}
 use Rattle.sequences.specs.Outcomes.{RunReady, FollowReady, FollowDone, Followed}
-use Rattle.sequences.proofs.PlaceLaws.{Clear, clear-swap, clear-in, apart-in, clear-up, clear-down, worked-apart, besides-apart, besides-kept}
-use Rattle.sequences.proofs.PlaceLaws.{same-trans, stands-same, elements-same, work≤inverse, Laid}
-use Rattle.sequences.proofs.TurnLaws.{Turning, quot-low, lost, lost-low, lost-high}
-use Rattle.sequences.proofs.RunLaws.{underOf, nextOf, levelOf, run-few, run-room, run-tower, run-stands, run-acting}
-
--- f's coefficients at row, what it carries, and the inverse of its leading coefficient
-pub record Stood (p : ℕ) (p-pos : 0 < p) (d : List ℕ) (h : ℕ) (f : Led (El p d h) (Vec (El p d h) (degree d h))) (row carried unit : ℕ) (w : List ℤ) : Type 0 where
-  pub coefficients : Elements p d h (suc (f .degree)) (coef (group p p-pos d h .𝟘) (suc (f .degree)) (whole f)) w row
-  pub carries : Elements p d h (degree d h) (coef (group p p-pos d h .𝟘) (degree d h) (f .carried)) w carried
-  pub inverse : Stands p d h (f .unit) w unit
+use Rattle.sequences.specs.Passes.{underOf, nextOf, levelOf, Clear, Laid, Turning, Stood}
+use Rattle.sequences.proofs.PlaceLaws.{clear-swap, clear-in, apart-in, clear-up, clear-down, worked-apart, besides-apart, besides-kept}
+use Rattle.sequences.proofs.PlaceLaws.{same-trans, stands-same, elements-same, work≤inverse}
+use Rattle.sequences.proofs.TurnLaws.{quot-low, lost, lost-low, lost-high}
+use Rattle.sequences.proofs.RunLaws.{run-few, run-room, run-tower, run-stands, run-acting}
 
 module _ {h : ℕ} {d z : List ℕ} {p : ℕ} {e : List ℤ} {e-in : Bool} {ea : ℕ} {x : List ℤ} {x-in : Bool} {a : ℕ} {w₀ : List ℤ} {top : ℕ}
     (r : RunReady (suc h) d z p e e-in ea x x-in a w₀ top) {f k : Led (El p d h) (Vec (El p d h) (degree d h))}

@@ -1,12 +1,12 @@
 -- Places in the store: runs of words that have no place in common, and what stands in them while others change.
 --
--- Clear                        == two runs of words have no place in common;  clear-up, clear-down == one before the other
+-- clear-up, clear-down         == two runs of words have no place in common: one is before the other
 -- clear-swap, clear-in, apart-in == the other way round; parts of two runs
 -- worked-apart, besides-apart  == a run outside a frame is as before;  besides-kept == a turn's end changes only words from low on
 -- besides-refl, besides-trans, besides-left, besides-right == nothing changed; one change after another; only one of two runs changed
 -- same-trans                   == one change after another;  stands-same, elements-same == what stands in such a run stands there still
 -- work≤inverse                 == an inverse has room for a product
--- Laid                         == the six places of two neighbours in the sequence, apart;  laid-start, laid-swap == at the start, and the other way round
+-- laid-start, laid-swap        == the six places of two neighbours in the sequence: at the start, and the other way round
 use Prim.Native.Nat.{ℕ, zero, suc, _+_, _*_, _<_, _≤_}
 use native.Mathlib.Nat.{mul-le-mul-right}
 use native.Mathlib.Omega.{arith}
@@ -26,12 +26,10 @@ use Rattle.products.specs.Product.{Worked, work, work-zero, work-suc, Elements}
 use Rattle.products.proofs.Frames.{Same, same-seg, elements-picked}
 use Rattle.sequences.specs.Rows.{Between}
 use Rattle.sequences.specs.Outcomes.{Away, Besides}
+use Rattle.sequences.specs.Passes.{Clear, Laid}
 use Rattle.sequences.proofs.RowLaws.{between-same}
 
 -- ---- two runs
-pub record Clear (a n b m : ℕ) : Type 0 where
-  pub apart : Between a n b m
-
 pub clear-swap : {a n b m : ℕ} → Clear a n b m → Clear b m a n
 clear-swap {a} {n} {b} {m} c = record { apart = go (c .apart) }
   where
@@ -115,36 +113,7 @@ work≤inverse d (suc i) =
     wide-few : (g : ℕ) → wide g ≤ 5 * (g + 1)
     wide-few g = omega arith
 
--- ---- the places of two neighbours f and k: rows of n words behind a word of their own, and s words for each inverse, all from top on and below next
-pub record Laid (top next n s fr fc fu kr kc ku : ℕ) : Type 0 where
-  pub fr-low : top < fr
-  pub fr-high : fr + n ≤ next
-  pub fc-low : top < fc
-  pub fc-high : fc + n ≤ next
-  pub fu-low : top ≤ fu
-  pub fu-high : fu + s ≤ next
-  pub kr-low : top < kr
-  pub kr-high : kr + n ≤ next
-  pub kc-low : top < kc
-  pub kc-high : kc + n ≤ next
-  pub ku-low : top ≤ ku
-  pub ku-high : ku + s ≤ next
-  pub fr-fc : Clear fr n fc n
-  pub fr-fu : Clear fr n fu s
-  pub fr-kr : Clear fr n kr n
-  pub fr-kc : Clear fr n kc n
-  pub fr-ku : Clear fr n ku s
-  pub fc-fu : Clear fc n fu s
-  pub fc-kr : Clear fc n kr n
-  pub fc-kc : Clear fc n kc n
-  pub fc-ku : Clear fc n ku s
-  pub fu-kr : Clear fu s kr n
-  pub fu-kc : Clear fu s kc n
-  pub fu-ku : Clear fu s ku s
-  pub kr-kc : Clear kr n kc n
-  pub kr-ku : Clear kr n ku s
-  pub kc-ku : Clear kc n ku s
-
+-- ---- the places of two neighbours
 pub laid-swap : {top next n s fr fc fu kr kc ku : ℕ} → Laid top next n s fr fc fu kr kc ku → Laid top next n s kr kc ku fr fc fu
 laid-swap l = record {
   fr-low = l .kr-low;

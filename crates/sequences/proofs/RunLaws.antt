@@ -1,12 +1,9 @@
 -- Laws of an inverse at level h + 1: what holds from its beginning to its end.
 --
--- underOf, nextOf == where the words of the tower of level h begin; where the words above the five slots begin
--- levelOf         == the level below, over which the sequence is taken
 -- run-some, run-few, run-small, run-room == the numbers
 -- run-acting      == what every function on rows asks for, while only words from top on have changed
 -- run-tower, run-inside, run-stands == the words of the tower below lie before any of these, and stand there
 -- run-done        == it is enough to know what the elements that the contract shows come to;  shown-above == a factor of a level below is the answer
--- element-later, run-later, run-earlier == the same asked for from a later store on, and what is done from there on is done from before
 use Prim.Native.Nat.{ℕ, suc, _+_, _*_, _^_, _<_, _≤_}
 use native.Mathlib.Bridge.{le-prop}
 use native.Mathlib.Nat.{mul-le-mul-right}
@@ -17,37 +14,28 @@ use mathlib.Core.Logic.{inl}
 use mathlib.Core.List.{List}
 use lib.IntN.{ℤ}
 use Rattle.tower.specs.Levels.{degree, El, Tower, Ones, fewer}
-use Rattle.tower.specs.Writing.{size, size-suc, modulusSize, towerSize, towerSize-suc, read, towerOf}
+use Rattle.tower.specs.Writing.{size, size-suc, towerSize, towerSize-suc, read, towerOf}
 use Rattle.tower.specs.Stands.{Stands}
-use Rattle.tower.specs.Store.{Kept, kept-trans}
+use Rattle.tower.specs.Store.{Kept}
 use Rattle.tower.specs.Work.{inverseWork, inverseWork-suc}
 use Rattle.tower.specs.TowerUnique.{towerOf-words}
 use Rattle.tower.specs.Unique.{laws}
 use Rattle.arithmetic.specs.Walk.{pick}
 use Rattle.products.specs.Product.{TowerStands, Inside}
-use Rattle.products.proofs.Frames.{picked-seg, inside-kept, below-same, tower-kept}
+use Rattle.products.proofs.Frames.{inside-kept, tower-kept}
 use Rattle.products.proofs.Towers.{tower-rest}
-use Rattle.euclid.specs.Level.{Level}
 use Rattle.euclid.specs.Answer.{shown}
 use Rattle.euclid.specs.Shown.{shownWords, shown-fits}
-use Rattle.euclid.specs.Towers.{Shown, level-of, inv, level}
+use Rattle.euclid.specs.Towers.{Shown, level-of, inv}
 use Rattle.sequences.specs.declared.Ended.{Ended}
 use Rattle.sequences.specs.declared.Ended.the-variants.{Divisor}
 use Rattle.sequences.specs.Rows.{Acting}
 use Rattle.sequences.specs.Outcomes.{FactorStands, RunReady, RunDone, Reached}
+use Rattle.sequences.specs.Passes.{underOf, nextOf}
 use Rattle.sequences.proofs.PlaceLaws.{work≤inverse}
-
-abbrev pub underOf : List ℕ → ℕ → ℕ → ℕ
-underOf d h ea = ea + modulusSize d h
-
-abbrev pub nextOf : List ℕ → ℕ → ℕ → ℕ
-nextOf d h top = top + 5 * ((degree d h + 1) * size d h + 1)
 
 module _ {h : ℕ} {d z : List ℕ} {p : ℕ} {e : List ℤ} {e-in : Bool} {ea : ℕ} {x : List ℤ} {x-in : Bool} {a : ℕ} {w₀ : List ℤ} {top : ℕ}
     (r : RunReady (suc h) d z p e e-in ea x x-in a w₀ top) where
-  abbrev pub levelOf : Level
-  levelOf = level p (r .p-pos) d h (r .t .0)
-
   run-ones : Ones p (r .p-pos) d (suc h)
   run-ones = record { p-two = r .two; degrees = r .positive .some }
 
@@ -128,33 +116,3 @@ module _ {h : ℕ} {d z : List ℕ} {p : ℕ} {e : List ℤ} {e-in : Bool} {ea :
     record { low = l; high = omega (arith, q, run-room, shown-fits p (r .p-pos) d h (fewer p (r .p-pos) d h run-ones) x) },
     s,
   )
-
-  -- ---- from a later store on: what stands below top stands there too
-  module _ {w : List ℤ} (f : Kept top (inverseWork d (suc h)) w₀ w) where
-    pub element-later : (v : El p d (suc h)) → Stands p d (suc h) v (pick x-in w₀ x) a → Stands p d (suc h) v (pick x-in w x) a
-    element-later v s = picked-seg x-in a (size d (suc h)) w₀ w x (below-same (r .x-inside) f) ∙ s
-
-    unfoldable pub run-later : RunReady (suc h) d z p e e-in ea x x-in a w top
-    run-later = record {
-      modulus = r .modulus;
-      two = r .two;
-      low = r .low;
-      sized = r .sized;
-      positive = r .positive;
-      small = r .small;
-      e-inside = inside-kept e-in w₀ w e (f .long) (omega arith) (r .e-inside);
-      x-inside = inside-kept x-in w₀ w x (f .long) (omega arith) (r .x-inside);
-      room = omega (arith, r .room, f .long);
-      p-pos = r .p-pos;
-      t = r .t;
-      v = r .v;
-      tower = tower-kept p (r .p-pos) d (suc h) (r .t) e-in w₀ w e (r .e-inside) f (r .tower);
-      element = element-later (r .v) (r .element);
-      some = r .some;
-    }
-
-    pub run-earlier : {w′ : List ℤ} (o : Ended) → RunDone (suc h) d p e e-in ea x x-in a w w′ top o → RunDone (suc h) d p e e-in ea x x-in a w₀ w′ top o
-    run-earlier o q = record {
-      frame = kept-trans f (q .frame);
-      done = λ p-pos t v ts vs nz. q .done p-pos t v (tower-kept p p-pos d (suc h) t e-in w₀ w e (r .e-inside) f ts) (element-later v vs) nz;
-    }

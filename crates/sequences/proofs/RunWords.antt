@@ -1,12 +1,9 @@
--- An inverse above level 0 in the words of the code: I is its level, g the degree and s the size that the code reads one level down.
+-- The beginning of an inverse above level 0 in the words of the code: I is its level, g the degree and s the size that the code reads one level down.
 --
 -- Sizes, Slots                      == what the code reads; the five slots end below a bound
--- run-level, run-fits, run-under, run-place, turn-place == the numbers fit
--- run-reads, run-begins, run-count, run-inverts, run-loops, run-shows, run-over == the beginning
--- run-ends                          == what the loop leaves is left from the beginning on
--- turn-numbers, turn-divides, turn-loses, turn-follows, turns-fewer, turns-on, turns-to, turns-out == a turn
--- factor-scales, factor-finishes, ends-factor    == the end where the remainder was zero
--- inverse-scales, inverse-finishes, ends-inverse == the end where k is a constant
+-- run-level, run-fits, run-under, run-place == the numbers fit
+-- run-reads, run-begins, run-count, run-inverts == what is asked for
+-- run-underway, run-passes, run-shows, run-over == the sequence from there on; a factor of a level below; number 11 is not met
 use Prim.Native.Nat.{ℕ, suc, _+_, _-_, _*_, _<_, _≤_}
 use native.Mathlib.Nat.{mul-le-mul-left, mul-le-mul-right}
 use native.Mathlib.Omega.{arith}
@@ -20,18 +17,15 @@ use Rattle.tower.specs.Writing.{size, size-pos, towerSize-suc, countOf}
 use Rattle.arithmetic.specs.Rows.{block-inside}
 use Rattle.arithmetic.specs.Walk.{pick}
 use Rattle.sequences.specs.declared.Ended.{Ended}
-use Rattle.sequences.specs.declared.Ended.the-variants.{Inverse, Divisor}
+use Rattle.sequences.specs.declared.Ended.the-variants.{Divisor}
+use Rattle.sequences.specs.declared.Led.{Led}
 use Rattle.sequences.specs.declared.Outcome.{Outcome}
 use Rattle.sequences.specs.declared.Outcome.the-variants.{Done, Factor, Long}
-use Rattle.sequences.specs.declared.Turn.{Turn}
-use Rattle.sequences.specs.declared.Turn.the-variants.{Next, Shows, Over}
-use Rattle.sequences.specs.Rows.{ScaleRowReady, ScaleRowDone, LoseReady, LoseDone, DivideReady, DivideDone}
-use Rattle.sequences.specs.Starts.{BeginReady, BeginDone, FinishReady, FinishDone}
-use Rattle.sequences.specs.Outcomes.{RunReady, RunDone, InvertReady, InvertDone, FollowReady, FollowDone}
-use Rattle.sequences.proofs.RunLaws.{underOf, nextOf, run-some, run-room, run-earlier}
-use Rattle.sequences.proofs.BeginLaws.{Leads, leads, begin-reads, begin-ready, begin-counts, begin-asks, begin-frame, begin-going, begin-shows, begin-over}
-use Rattle.sequences.proofs.StateLaws.{Looping, loop-begins, loop-counts, loop-divide, loop-lose, loop-follow, loop-fewer, loop-next, loop-shows, loop-over}
-use Rattle.sequences.proofs.EndLaws.{end-factor-asks, end-factor-finish, end-factor, end-inverse-asks, end-inverse-finish, end-inverse}
+use Rattle.sequences.specs.Starts.{BeginReady, BeginDone, ledAt}
+use Rattle.sequences.specs.Outcomes.{RunReady, RunDone, InvertReady, InvertDone}
+use Rattle.sequences.specs.Passes.{underOf, nextOf, Looping, Underway, PassesDone}
+use Rattle.sequences.proofs.RunLaws.{run-some, run-room}
+use Rattle.sequences.proofs.BeginLaws.{Leads, leads, begin-reads, begin-ready, begin-counts, begin-asks, begin-going, begin-shows, begin-over}
 
 -- what the code reads of the degrees and sizes
 pub record Sizes (I : ℕ) (d z : List ℕ) (g s S : ℕ) : Type 0 where
@@ -95,121 +89,64 @@ module _ {I : ℕ} {d z : List ℕ} {p : ℕ} {e : List ℤ} {e-in : Bool} {ea :
       pub run-count : (0 < n) × (n ≤ g)
       run-count = rw eg (begin-counts ready at-first began)
 
-      pub run-place : top + ((g + 1) * s + 1) + 1 + (n - 1) * s ≤ length w₀
-      run-place = omega (arith, block-inside (n - 1) (g + 1) s (omega (arith, run-count)), run-fits)
+      -- the two polynomials in their slots
+      module _ {f k : Led} (ef : f ≡ ledAt top ((g + 1) * s + 1) (top + 4 * ((g + 1) * s + 1)) (g + 1))
+          (ek : k ≡ ledAt (top + ((g + 1) * s + 1)) ((g + 1) * s + 1) (top + 4 * ((g + 1) * s + 1) + s) n) where
+        row-is : k .row ≡ top + ((g + 1) * s + 1) + 1
+        row-is = ap (λ y. y .row) ek
 
-      module _ {at : ℕ} (ep : at ≡ top + ((g + 1) * s + 1) + 1 + (n - 1) * s) where
-        pub run-inverts : InvertReady j d z p e e-in (ea + S + s) e true at w₁ (top + 4 * ((g + 1) * s + 1) + s) (top + 5 * ((g + 1) * s + 1))
-        run-inverts = rw (under-is, ep, eg, one-size) (begin-asks ready at-first began)
+        unit-is : k .unit ≡ top + 4 * ((g + 1) * s + 1) + s
+        unit-is = ap (λ y. y .unit) ek
 
-        module _ {w₂ : List ℤ} (c : Outcome)
-            (i : InvertDone j d p e e-in (ea + S + s) e true at w₁ w₂ (top + 4 * ((g + 1) * s + 1) + s) (top + 5 * ((g + 1) * s + 1)) c) where
-          inverted : InvertDone j d p e e-in (underOf d j ea) e true (top + ((degree d j + 1) * size d j + 1) + 1 + (n - 1) * size d j) w₁ w₂
-              (top + 4 * ((degree d j + 1) * size d j + 1) + size d j) (nextOf d j top) c
-          inverted = rw (under-is, ep, eg, one-size) at i
+        pub run-place : k .row + (n - 1) * s ≤ length w₀
+        run-place = omega (arith, row-is, block-inside (n - 1) (g + 1) s (omega (arith, run-count)), run-fits)
 
-          pub run-loops : c ≡ Done → Looping j d z p e e-in ea x x-in a w₂ top (top + 1) (top + 2 * ((g + 1) * s + 1) + 1) (top + 4 * ((g + 1) * s + 1)) (g + 1)
-              (top + ((g + 1) * s + 1) + 1) (top + 3 * ((g + 1) * s + 1) + 1) (top + 4 * ((g + 1) * s + 1) + s) n (g + 2) w₂
-          run-loops ec = rw (eg, one-size) (loop-begins (begin-going ready at-first began c inverted ec))
+        module _ {at : ℕ} (ep : at ≡ k .row + (n - 1) * s) where
+          at-is : at ≡ top + ((g + 1) * s + 1) + 1 + (n - 1) * s
+          at-is = omega (arith, ep, row-is)
 
-          -- what is done from there on
-          pub run-ends : {w : List ℤ} (o : Ended) → RunDone I d p e e-in ea x x-in a w₂ w top o → RunDone I d p e e-in ea x x-in a w₀ w top o
-          run-ends {w} o q =
-              told o (run-earlier ready (begin-frame ready at-first began c inverted) o (subst (λ i. RunDone i d p e e-in ea x x-in a w₂ w top o) up q))
+          pub run-inverts : InvertReady j d z p e e-in (ea + S + s) e true at w₁ (k .unit) (top + 5 * ((g + 1) * s + 1))
+          run-inverts = rw (under-is, unit-is, at-is, eg, one-size) (begin-asks ready at-first began)
 
-          pub run-shows : (m : ℕ) → c ≡ Factor m → RunDone I d p e e-in ea x x-in a w₀ w₂ top (Divisor m (top + 4 * ((g + 1) * s + 1) + s))
-          run-shows m ec = rw (eg, one-size) (told _ (begin-shows ready at-first began c inverted m ec))
+          module _ {w₂ : List ℤ} (c : Outcome) (i : InvertDone j d p e e-in (ea + S + s) e true at w₁ w₂ (k .unit) (top + 5 * ((g + 1) * s + 1)) c) where
+            inverted : InvertDone j d p e e-in (underOf d j ea) e true (top + ((degree d j + 1) * size d j + 1) + 1 + (n - 1) * size d j) w₁ w₂
+                (top + 4 * ((degree d j + 1) * size d j + 1) + size d j) (nextOf d j top) c
+            inverted = rw (under-is, unit-is, at-is, eg, one-size) at i
 
-          pub run-over : c ≡ Long → ⊥
-          run-over = begin-over ready at-first began c inverted
+            -- at the places that the code computes
+            abbrev From : Led → Led → Type 0
+            From f k = Looping j d z p e e-in ea x x-in a w₀ top (f .row) (f .carried) (f .unit) (f .count) (k .row) (k .carried) (k .unit) (k .count) w₂
 
--- ---- the loop, w₀ being the store where it begins
-module _ {I : ℕ} {d z : List ℕ} {p : ℕ} {e : List ℤ} {e-in : Bool} {ea : ℕ} {x : List ℤ} {x-in : Bool} {a : ℕ} {w₀ : List ℤ} {top g s S : ℕ}
-    (q : Sizes I d z g s S) {fr fc fu fn kr kc ku kn left : ℕ} {w : List ℤ} (l : Looping (I - 1) d z p e e-in ea x x-in a w₀ top fr fc fu fn kr kc ku kn left w) where
-  abbrev h : ℕ
-  h = I - 1
+            begun : c ≡ Done → From f k
+            begun ec =
+                let third : top + ((g + 1) * s + 1) + 2 * ((g + 1) * s + 1) + 1 ≡ top + 3 * ((g + 1) * s + 1) + 1 = omega arith in
+                subst (λ y. From y k) (sym ef) (subst (From _) (sym ek) (rw (third, eg, one-size) (begin-going ready at-first began c inverted ec)))
 
-  high : (0 < I) × RunReady I d z p e e-in ea x x-in a w₀ top
-  high =
-      let up : I ≡ suc (I - 1) = omega (arith, q .above) in
-      (q .above, subst (λ i. RunReady i d z p e e-in ea x x-in a w₀ top) (sym up) (l .ready))
+            abbrev underway : c ≡ Done
+                → Underway j g s d z p e e-in (ea + S + s) (f .row) (f .carried) (f .unit) (f .count) (k .row) (k .carried) (k .unit) (k .count) w₂ (top + 5 * ((g + 1) * s + 1))
+            underway ec = record {
+              ea = ea;
+              x = x;
+              x-in = x-in;
+              a = a;
+              w₀ = w₀;
+              top = top;
+              figures = record { degree-is = eg; size-is = one-size; under-is = under-is; next-is = rw (eg, one-size) };
+              looping = begun ec;
+            }
 
-  here : g ≡ degree d h
-  here = q .degree-is
+            pub run-underway : c ≡ Done
+                → Underway j g s d z p e e-in (ea + S + s) (f .row) (f .carried) (f .unit) (f .count) (k .row) (k .carried) (k .unit) (k .count) w₂ (top + 5 * ((g + 1) * s + 1))
+            run-underway = underway
 
-  each : s ≡ size d h
-  each = one-size high q
+            pub run-passes : {w : List ℤ} (o : Ended) → c ≡ Done
+                → PassesDone j g s d z p e e-in (ea + S + s) (f .row) (f .carried) (f .unit) (f .count) (k .row) (k .carried) (k .unit) (k .count) w₂ w
+                (top + 5 * ((g + 1) * s + 1)) o
+                → RunDone I d p e e-in ea x x-in a w₀ w top o
+            run-passes o ec y = told o (y .done (underway ec))
 
-  under : ea + S + s ≡ underOf d h ea
-  under = under-is high q
+            pub run-shows : (m : ℕ) → c ≡ Factor m → RunDone I d p e e-in ea x x-in a w₀ w₂ top (Divisor m (k .unit))
+            run-shows m ec = rw (unit-is, eg, one-size) (told _ (begin-shows ready at-first began c inverted m ec))
 
-  module _ (more : 1 < kn) where
-    pub turn-numbers : (0 < left) × (kn < fn) × (fn ≤ g + 1)
-    turn-numbers = rw here (loop-counts l more)
-
-    pub turn-place : fr + (kn - 1) * s ≤ top + 5 * ((g + 1) * s + 1)
-    turn-place =
-        rw (here, each) (omega (arith, block-inside (kn - 1) (degree d h + 1) (size d h) (omega (arith, loop-counts l more)), l .laid .fr-high))
-
-    pub turn-divides : DivideReady h d z p e e-in (ea + S + s) kr (kn - 1) ku w fr fn (top + 5 * ((g + 1) * s + 1))
-    turn-divides = rw (under, here, each) (loop-divide l more)
-
-    module _ {w₁ : List ℤ} (divided : DivideDone h d p e e-in (ea + S + s) kr (kn - 1) ku w w₁ fr fn (top + 5 * ((g + 1) * s + 1)))
-        {at : ℕ} (ep : at ≡ fr + (kn - 1) * s) where
-      divided′ : DivideDone h d p e e-in (underOf d h ea) kr (kn - 1) ku w w₁ fr fn (nextOf d h top)
-      divided′ = rw (under, here, each) at divided
-
-      pub turn-loses : LoseReady h d z p e e-in (ea + S + s) at (fn - kn + 1) kc (g + 2 - fn) w₁ fc (top + 5 * ((g + 1) * s + 1))
-      turn-loses = rw (under, ep, here, each) (loop-lose l more divided′)
-
-      module _ {w₂ : List ℤ} (lose : LoseDone h d p e e-in (ea + S + s) at (fn - kn + 1) kc (g + 2 - fn) w₁ w₂ fc (top + 5 * ((g + 1) * s + 1))) where
-        lose′ : LoseDone h d p e e-in (underOf d h ea) (fr + (kn - 1) * size d h) (fn - kn + 1) kc (degree d h + 2 - fn) w₁ w₂ fc (nextOf d h top)
-        lose′ = rw (under, ep, here, each) at lose
-
-        pub turn-follows : FollowReady h d z p e e-in (ea + S + s) fr (kn - 1) fu w₂ (top + 5 * ((g + 1) * s + 1))
-        turn-follows = rw (under, here, each) (loop-follow l more divided′ lose′)
-
-        module _ {w₃ : List ℤ} (c : Turn) (follow : FollowDone h d p e e-in (ea + S + s) fr (kn - 1) fu w₂ w₃ (top + 5 * ((g + 1) * s + 1)) c) where
-          follow′ : FollowDone h d p e e-in (underOf d h ea) fr (kn - 1) fu w₂ w₃ (nextOf d h top) c
-          follow′ = rw (under, here, each) at follow
-
-          pub turns-fewer : (n : ℕ) → c ≡ Next n → n < kn
-          turns-fewer = loop-fewer l more divided′ lose′ c follow′
-
-          pub turns-on : (n : ℕ) → c ≡ Next n → Looping h d z p e e-in ea x x-in a w₀ top kr kc ku kn fr fc fu n (left - 1) w₃
-          turns-on = loop-next l more divided′ lose′ c follow′
-
-          pub turns-to : (m at : ℕ) → c ≡ Shows m at → RunDone I d p e e-in ea x x-in a w₀ w₃ top (Divisor m at)
-          turns-to m at ec = told high _ (loop-shows l more divided′ lose′ c follow′ m at ec)
-
-          pub turns-out : c ≡ Over → ⊥
-          turns-out = loop-over l more divided′ lose′ c follow′
-
-  -- ---- the end
-  module _ (none : kn ≡ 0) where
-    pub factor-scales : ScaleRowReady h fn d z p e e-in (ea + S + s) fu w fr (top + 5 * ((g + 1) * s + 1))
-    factor-scales = rw (under, here, each) (end-factor-asks l none)
-
-    module _ {w₁ : List ℤ} (scaled : ScaleRowDone h fn d p e e-in (ea + S + s) fu w w₁ fr (top + 5 * ((g + 1) * s + 1))) where
-      scaled′ : ScaleRowDone h fn d p e e-in (underOf d h ea) fu w w₁ fr (nextOf d h top)
-      scaled′ = rw (under, here, each) at scaled
-
-      pub factor-finishes : FinishReady h fn g s d z w₁ fr
-      factor-finishes = rw (here, each) (end-factor-finish l none scaled′)
-
-      pub ends-factor : {w₂ : List ℤ} → FinishDone h fn g d w₁ w₂ fr → RunDone I d p e e-in ea x x-in a w₀ w₂ top (Divisor I (fr - 1))
-      ends-factor {w₂} fin = subst (λ i. RunDone i d p e e-in ea x x-in a w₀ w₂ top (Divisor i (fr - 1))) (sym (up high)) (end-factor l none scaled′ (rw here at fin))
-
-  module _ (some : ¬ (kn ≡ 0)) (last : kn ≤ 1) where
-    pub inverse-scales : ScaleRowReady h g d z p e e-in (ea + S + s) ku w kc (top + 5 * ((g + 1) * s + 1))
-    inverse-scales = rw (under, here, each) (end-inverse-asks l some last)
-
-    module _ {w₁ : List ℤ} (scaled : ScaleRowDone h g d p e e-in (ea + S + s) ku w w₁ kc (top + 5 * ((g + 1) * s + 1))) where
-      scaled″ : ScaleRowDone h (degree d h) d p e e-in (underOf d h ea) ku w w₁ kc (nextOf d h top)
-      scaled″ = rw (under, here, each) at scaled
-
-      pub inverse-finishes : FinishReady h g g s d z w₁ kc
-      inverse-finishes = rw (here, each) (end-inverse-finish l some last scaled″)
-
-      pub ends-inverse : {w₂ : List ℤ} → FinishDone h g g d w₁ w₂ kc → RunDone I d p e e-in ea x x-in a w₀ w₂ top (Inverse (kc - 1))
-      ends-inverse fin = told high _ (end-inverse l some last scaled″ (rw here at fin))
+            pub run-over : c ≡ Long → ⊥
+            run-over = begin-over ready at-first began c inverted

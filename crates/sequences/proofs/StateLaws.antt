@@ -1,8 +1,6 @@
 -- Laws of the loop of an inverse at level h + 1, in the counts of the code.
 --
--- Going, Zero    == f and k follow each other, with counts fn and kn; or the remainder was zero, and f is the factor
--- Looping        == what holds wherever the loop's test is reached;  loop-begins == the store where the loop begins may stand for the one before it
--- loop-counts    == the numbers;  loop-divide, loop-lose, loop-follow == what a turn asks for
+-- loop-few, loop-counts == the numbers;  loop-divide, loop-lose, loop-follow == what a turn asks for
 -- loop-fewer     == the remainder has fewer coefficients than the divisor
 -- loop-next, loop-shows, loop-over == the next turn; a factor of a level below; number 11 is not met
 use Prim.Native.Nat.{ℕ, suc, _+_, _-_, _*_, _<_, _≤_}
@@ -16,95 +14,37 @@ use lib.IntN.{ℤ}
 use Rattle.algebra.specs.Ring.{CRing}
 use Rattle.algebra.specs.Vec.{Vec, coef}
 use Rattle.algebra.specs.Shape.{Shape, null, lead, strip, Stripped, strip-ok}
-use Rattle.algebra.specs.UnitDivide.{scaleᵛ}
 use Rattle.tower.specs.Levels.{degree, El, isZero, group, zero-test, ring}
 use Rattle.tower.specs.Writing.{size}
-use Rattle.tower.specs.Store.{Kept, kept-refl}
+use Rattle.tower.specs.Store.{Kept}
 use Rattle.tower.specs.Work.{inverseWork}
 use Rattle.arithmetic.specs.Rows.{block-inside}
-use Rattle.euclid.specs.Answer.{Answer, shown}
+use Rattle.euclid.specs.Answer.{Answer}
 use Rattle.euclid.specs.Towers.{Shown, inv, good}
-use Rattle.euclid.specs.Lazy.{Led, UnitLed, rest}
+use Rattle.euclid.specs.Lazy.{Led, rest}
 use Rattle.sequences.specs.declared.Ended.the-variants.{Divisor}
 use Rattle.sequences.specs.declared.Turn.{Turn}
 use Rattle.sequences.specs.declared.Turn.the-variants.{Next, Shows, Over}
 use Rattle.sequences.specs.Rows.{DivideReady, DivideDone, LoseReady, LoseDone}
 use Rattle.sequences.specs.Outcomes.{RunReady, RunDone, Reached, FollowReady, FollowDone, Followed, Follows}
+use Rattle.sequences.specs.Passes.{underOf, nextOf, levelOf, Stood, Going, Zero, Looping}
 use Rattle.sequences.proofs.AnswerLaws.{follows-next, follows-shows, follows-over}
-use Rattle.sequences.proofs.PlaceLaws.{Laid, laid-swap}
-use Rattle.sequences.proofs.TurnLaws.{Turning, turn-next, turn-shown, turn-some, turn-factor}
-use Rattle.sequences.proofs.RunLaws.{underOf, nextOf, levelOf, run-done, run-later, shown-above}
-use Rattle.sequences.proofs.LoopLaws.{Stood, turn-divide, turn-lose, turn-follow, turn-frame, turn-followed, turn-keeps, turn-stands}
+use Rattle.sequences.proofs.PlaceLaws.{laid-swap}
+use Rattle.sequences.proofs.TurnLaws.{turn-next, turn-shown, turn-some, turn-factor}
+use Rattle.sequences.proofs.RunLaws.{run-done, shown-above}
+use Rattle.sequences.proofs.LoopLaws.{turn-divide, turn-lose, turn-follow, turn-frame, turn-followed, turn-keeps, turn-stands}
 
-module _ {h : ℕ} {d z : List ℕ} {p : ℕ} {e : List ℤ} {e-in : Bool} {ea : ℕ} {x : List ℤ} {x-in : Bool} {a : ℕ} {w₀ : List ℤ} {top : ℕ}
-    (r : RunReady (suc h) d z p e e-in ea x x-in a w₀ top) where
-  -- f and k, and how many coefficients they have
-  pub record Going (fr fc fu fn kr kc ku kn : ℕ) (w : List ℤ) : Type 0 where
-    pub f : Led (El p d h) (Vec (El p d h) (degree d h))
-    pub k : Led (El p d h) (Vec (El p d h) (degree d h))
-    pub turning : Turning (levelOf r) (degree d h) (r .t .1) (r .v) f k
-    pub f-count : fn ≡ suc (f .degree)
-    pub k-count : kn ≡ suc (k .degree)
-    pub f-stands : Stood p (r .p-pos) d h f fr fc fu w
-    pub k-stands : Stood p (r .p-pos) d h k kr kc ku w
-
-  -- f divides the one before it
-  pub record Zero (fr fc fu fn kn : ℕ) (w : List ℤ) : Type 0 where
-    pub none : kn ≡ 0
-    pub f : Led (El p d h) (Vec (El p d h) (degree d h))
-    pub f-count : fn ≡ suc (f .degree)
-    pub above : 1 ≤ f .degree
-    pub below : f .degree < degree d h
-    pub unit-f : UnitLed (ring p (r .p-pos) d h (r .t .0)) f
-    pub f-stands : Stood p (r .p-pos) d h f fr fc fu w
-    pub comes : inv p (r .p-pos) d (suc h) (r .t) (r .v) ≡ shown (inr (f .degree, scaleᵛ (ring p (r .p-pos) d h (r .t .0)) (f .degree) (f .unit) (f .low)))
-
--- left remainders are allowed yet
-pub record Looping (h : ℕ) (d z : List ℕ) (p : ℕ) (e : List ℤ) (e-in : Bool) (ea : ℕ) (x : List ℤ) (x-in : Bool) (a : ℕ) (w₀ : List ℤ) (top : ℕ)
-    (fr fc fu fn kr kc ku kn left : ℕ) (w : List ℤ) : Type 0 where
-  pub ready : RunReady (suc h) d z p e e-in ea x x-in a w₀ top
-  pub frame : Kept top (inverseWork d (suc h)) w₀ w
-  pub laid : Laid top (nextOf d h top) ((degree d h + 1) * size d h) (size d h) fr fc fu kr kc ku
-  pub few : kn ≤ left
-  pub state : Going ready fr fc fu fn kr kc ku kn w ⊎ Zero ready fr fc fu fn kn w
-
--- the store where the loop begins may stand for the one before it
-pub loop-begins : {h : ℕ} {d z : List ℕ} {p : ℕ} {e : List ℤ} {e-in : Bool} {ea : ℕ} {x : List ℤ} {x-in : Bool} {a : ℕ} {w₀ : List ℤ} {top : ℕ}
-    {fr fc fu fn kr kc ku kn left : ℕ} {w : List ℤ} → Looping h d z p e e-in ea x x-in a w₀ top fr fc fu fn kr kc ku kn left w
-    → Looping h d z p e e-in ea x x-in a w top fr fc fu fn kr kc ku kn left w
-unfolding run-later
-loop-begins {h} {d} {z} {p} {e} {e-in} {ea} {x} {x-in} {a} {w₀} {top} {fr} {fc} {fu} {fn} {kr} {kc} {ku} {kn} {left} {w} s = record {
-  ready = run-later (s .ready) (s .frame);
-  frame = kept-refl top (inverseWork d (suc h)) w;
-  laid = s .laid;
-  few = s .few;
-  state = go (s .state);
-}
+-- k has no more coefficients than the modulus
+pub loop-few : {h : ℕ} {d z : List ℕ} {p : ℕ} {e : List ℤ} {e-in : Bool} {ea : ℕ} {x : List ℤ} {x-in : Bool} {a : ℕ} {w₀ : List ℤ} {top : ℕ}
+    {fr fc fu fn kr kc ku kn : ℕ} {w : List ℤ} → Looping h d z p e e-in ea x x-in a w₀ top fr fc fu fn kr kc ku kn w → kn ≤ degree d h + 1
+loop-few {h} {d} {fr = fr} {fc = fc} {fu = fu} {fn = fn} {kr = kr} {kc = kc} {ku = ku} {kn = kn} {w = w} s = go (s .state)
   where
-    go : Going (s .ready) fr fc fu fn kr kc ku kn w ⊎ Zero (s .ready) fr fc fu fn kn w
-        → Going (run-later (s .ready) (s .frame)) fr fc fu fn kr kc ku kn w ⊎ Zero (run-later (s .ready) (s .frame)) fr fc fu fn kn w
-    go (inl y) = inl (record {
-      f = y .f;
-      k = y .k;
-      turning = y .turning;
-      f-count = y .f-count;
-      k-count = y .k-count;
-      f-stands = y .f-stands;
-      k-stands = y .k-stands;
-    })
-    go (inr y) = inr (record {
-      none = y .none;
-      f = y .f;
-      f-count = y .f-count;
-      above = y .above;
-      below = y .below;
-      unit-f = y .unit-f;
-      f-stands = y .f-stands;
-      comes = y .comes;
-    })
+    go : Going (s .ready) fr fc fu fn kr kc ku kn w ⊎ Zero (s .ready) fr fc fu fn kn w → kn ≤ degree d h + 1
+    go (inl y) = omega (arith, y .k-count, y .turning .falls, y .turning .most)
+    go (inr y) = omega (arith, y .none)
 
 module _ {h : ℕ} {d z : List ℕ} {p : ℕ} {e : List ℤ} {e-in : Bool} {ea : ℕ} {x : List ℤ} {x-in : Bool} {a : ℕ} {w₀ : List ℤ} {top : ℕ}
-    {fr fc fu fn kr kc ku kn left : ℕ} {w : List ℤ} (s : Looping h d z p e e-in ea x x-in a w₀ top fr fc fu fn kr kc ku kn left w) (more : 1 < kn) where
+    {fr fc fu fn kr kc ku kn : ℕ} {w : List ℤ} (s : Looping h d z p e e-in ea x x-in a w₀ top fr fc fu fn kr kc ku kn w) (more : 1 < kn) where
   abbrev r : RunReady (suc h) d z p e e-in ea x x-in a w₀ top
   r = s .ready
 
@@ -125,9 +65,8 @@ module _ {h : ℕ} {d z : List ℕ} {p : ℕ} {e : List ℤ} {e-in : Bool} {ea :
   some : 1 ≤ k .degree
   some = omega (arith, go .k-count)
 
-  pub loop-counts : (0 < left) × (kn < fn) × (fn ≤ degree d h + 1)
+  pub loop-counts : (kn < fn) × (fn ≤ degree d h + 1)
   loop-counts = (
-    omega (arith, s .few),
     omega (arith, go .f-count, go .k-count, go .turning .falls),
     omega (arith, go .f-count, go .turning .most),
   )
@@ -136,7 +75,7 @@ module _ {h : ℕ} {d z : List ℕ} {p : ℕ} {e : List ℤ} {e-in : Bool} {ea :
   k-low : kn - 1 ≡ k .degree
   k-low = omega (arith, go .k-count)
 
-  quots-is : fn - kn + 1 ≡ suc (f .degree) - k .degree
+  quots-is : fn - (kn - 1) ≡ suc (f .degree) - k .degree
   quots-is = omega (arith, go .f-count, go .k-count, loop-counts)
 
   lows-is : degree d h + 2 - fn ≡ suc (degree d h) - f .degree
@@ -149,11 +88,11 @@ module _ {h : ℕ} {d z : List ℕ} {p : ℕ} {e : List ℤ} {e-in : Bool} {ea :
     divided′ : DivideDone h d p e e-in (underOf d h ea) kr (k .degree) ku w w₁ fr (suc (f .degree)) (nextOf d h top)
     divided′ = rw (go .f-count, k-low) at divided
 
-    pub loop-lose : LoseReady h d z p e e-in (underOf d h ea) (fr + (kn - 1) * size d h) (fn - kn + 1) kc (degree d h + 2 - fn) w₁ fc (nextOf d h top)
+    pub loop-lose : LoseReady h d z p e e-in (underOf d h ea) (fr + (kn - 1) * size d h) (fn - (kn - 1)) kc (degree d h + 2 - fn) w₁ fc (nextOf d h top)
     loop-lose = rw (quots-is, lows-is, k-low) (turn-lose r (go .turning) some (s .laid) (s .frame) (go .f-stands) (go .k-stands) divided′)
 
     module _ {w₂ : List ℤ}
-        (lose : LoseDone h d p e e-in (underOf d h ea) (fr + (kn - 1) * size d h) (fn - kn + 1) kc (degree d h + 2 - fn) w₁ w₂ fc (nextOf d h top)) where
+        (lose : LoseDone h d p e e-in (underOf d h ea) (fr + (kn - 1) * size d h) (fn - (kn - 1)) kc (degree d h + 2 - fn) w₁ w₂ fc (nextOf d h top)) where
       lose′ : LoseDone h d p e e-in (underOf d h ea) (fr + k .degree * size d h) (suc (f .degree) - k .degree) kc (suc (degree d h) - f .degree) w₁ w₂ fc (nextOf d h top)
       lose′ = rw (quots-is, lows-is, k-low) at lose
 
@@ -209,7 +148,7 @@ module _ {h : ℕ} {d z : List ℕ} {p : ℕ} {e : List ℤ} {e-in : Bool} {ea :
             let i = follows-next p (r .p-pos) d h (r .t .0) w₃ (f .unit) j free fu c n ec (answer y) q in
             omega (arith, i .2, st .0, go .k-count))
 
-        pub loop-next : (n : ℕ) → c ≡ Next n → Looping h d z p e e-in ea x x-in a w₀ top kr kc ku kn fr fc fu n (left - 1) w₃
+        pub loop-next : (n : ℕ) → c ≡ Next n → Looping h d z p e e-in ea x x-in a w₀ top kr kc ku kn fr fc fu n w₃
         loop-next n ec =
             by-cases _
             (λ st q.
@@ -218,7 +157,6 @@ module _ {h : ℕ} {d z : List ℕ} {p : ℕ} {e : List ℤ} {e-in : Bool} {ea :
               ready = r;
               frame = loop-frame;
               laid = laid-swap (s .laid);
-              few = omega (arith, loop-fewer n ec, s .few);
               state = inr (record {
                 none = none;
                 f = k;
@@ -236,7 +174,6 @@ module _ {h : ℕ} {d z : List ℕ} {p : ℕ} {e : List ℤ} {e-in : Bool} {ea :
               ready = r;
               frame = loop-frame;
               laid = laid-swap (s .laid);
-              few = omega (arith, loop-fewer n ec, s .few);
               state = inl (record {
                 f = k;
                 k = _;

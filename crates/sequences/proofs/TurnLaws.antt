@@ -1,13 +1,12 @@
 -- Laws of the sequence that an inverse takes on the modulus m and v, turn by turn.
 --
--- Turning     == two neighbours of the sequence, and that the inverse of v is what the sequence on them comes to
 -- turn-start  == m and v, where the inverse of v's leading coefficient is given
 -- quot-low, lost, lost-low, lost-high == the quotient has few coefficients; what is carried next, by coefficients
 -- turn-next   == the next pair;  turn-shown == a factor of a level below is shown;  turn-some == number 11 is not met
 -- turn-factor == the remainder is zero: of degree 1 or more the divisor is the factor;  turn-done == of degree 0 it carries the inverse
 use mathlib.Core.Path.{_≡_, refl, ap, _∙_}
-use mathlib.Core.Logic.{_⊎_, inl, inr}
-use Prim.Native.Nat.{ℕ, zero, suc, _-_, _≤_, _<_}
+use mathlib.Core.Logic.{inl, inr}
+use Prim.Native.Nat.{ℕ, zero, suc, _-_, _≤_}
 use native.Mathlib.Nat.{lt-irrefl}
 use native.Mathlib.Omega.{arith}
 use Rattle.algebra.specs.Ring.{CRing}
@@ -17,12 +16,13 @@ use Rattle.algebra.specs.Series.{SeriesRing, const}
 use Rattle.algebra.specs.Poly.{constᴾ}
 use Rattle.algebra.specs.Quotient.{one-is}
 use Rattle.algebra.specs.UnitDivide.{scaleᵛ, quotientᵘ-below}
-use Rattle.euclid.specs.Answer.{Answer, done, shown, long, bind, lift}
-use Rattle.euclid.specs.Level.{Level, Good, Mon, beneath, beneath-good}
+use Rattle.euclid.specs.Answer.{done, shown, long, bind, lift}
+use Rattle.euclid.specs.Level.{Level, Good, beneath, beneath-good}
 use Rattle.euclid.specs.Inverse.{elements, finish, inverse}
 use Rattle.euclid.specs.Demand.{inv-done}
-use Rattle.euclid.specs.Lazy.{Led, led, whole, UnitLed, rest, quot, lazy, lazy-fuel, lazy-null, lazy-shown, lazy-never-long, next-led, lazy-next}
+use Rattle.euclid.specs.Lazy.{Led, led, whole, rest, quot, lazy-fuel, lazy-null, lazy-shown, lazy-never-long, next-led, lazy-next}
 use Rattle.euclid.specs.LazyInverse.{elements-linear, less-low, less-below, modulus, modulus-led, element, inverse-lazy}
+use Rattle.sequences.specs.Passes.{Turning}
 
 module _ (L : Level) (g : ℕ) (m v : Vec (L .ring .Car) g) where
   open CRing (L .ring) using (Car, 𝟘, 𝟙, _⊕_, _⊗_, ⊖_)
@@ -34,22 +34,8 @@ module _ (L : Level) (g : ℕ) (m v : Vec (L .ring .Car) g) where
   abbrev R : CRing
   R = L .ring
 
-  -- what the sequence on two neighbours, of at most k remainders, leads to
-  abbrev after : ℕ → Led Car (Vec Car g) → Led Car (Vec Car g) → Answer (L .Shown ⊎ Mon Car) (Vec Car g)
-  after k f k′ = bind (lazy (beneath L g m) (elements L g m) k f k′) (λ r. finish L g m (r .degree) (r .low) (r .carried))
-
-  -- f and k follow each other; what they carry has few coefficients
-  pub record Turning (f k : Led (L .ring .Car) (Vec (L .ring .Car) g)) : Type 0 where
-    pub unit-f : UnitLed (L .ring) f
-    pub unit-k : UnitLed (L .ring) k
-    pub falls : k .degree < f .degree
-    pub most : f .degree ≤ g
-    pub carried-f : Below 𝟘 (g - f .degree) (coef 𝟘 g (f .carried))
-    pub carried-k : Below 𝟘 (suc g - f .degree) (coef 𝟘 g (k .carried))
-    pub comes : inverse L g m v ≡ after (suc (k .degree)) f k
-
   -- the modulus carries 0, and v carries 1
-  pub turn-start : Good L → (e : ℕ) (u : Vec Car e) (c : Car) → Stripped 𝟘 g v (lead e u c) → (i : Car) → L .inv c ≡ done i → Turning (modulus L g m) (element L g m e u c i)
+  pub turn-start : Good L → (e : ℕ) (u : Vec Car e) (c : Car) → Stripped 𝟘 g v (lead e u c) → (i : Car) → L .inv c ≡ done i → Turning L g m v (modulus L g m) (element L g m e u c i)
   turn-start G e u c st i h = record {
     unit-f = modulus-led L g m;
     unit-k = inv-done L G c (st .1) i h;
@@ -65,7 +51,7 @@ module _ (L : Level) (g : ℕ) (m v : Vec (L .ring .Car) g) where
       some : 1 ≤ g
       some = omega (arith, st .0)
 
-  module _ {f k : Led Car (Vec Car g)} (t : Turning f k) where
+  module _ {f k : Led Car (Vec Car g)} (t : Turning L g m v f k) where
     -- the quotient's coefficients
     pub quot-low : Below 𝟘 (suc (f .degree) - k .degree) (coef 𝟘 (suc (f .degree)) (quot R f k))
     quot-low =
@@ -98,7 +84,7 @@ module _ (L : Level) (g : ℕ) (m v : Vec (L .ring .Car) g) where
           t .comes ∙ ap (λ s. bind s (λ r. finish L g m (r .degree) (r .low) (r .carried)))
           (lazy-shown (beneath L g m) (elements L g m) f k (t .unit-f) e u c st (k .degree) (inl x) (ap (lift inl) h))
 
-      pub turn-next : (i : Car) → L .inv (f .unit ⊗ c) ≡ done i → Turning k (led e u c (i ⊗ f .unit) lost)
+      pub turn-next : (i : Car) → L .inv (f .unit ⊗ c) ≡ done i → Turning L g m v k (led e u c (i ⊗ f .unit) lost)
       turn-next i h = record {
         unit-f = t .unit-k;
         unit-k = next-led (beneath L g m) (elements L g m) f k (t .unit-f) e u c st (beneath-good L g m G) i (ap (lift inl) h);

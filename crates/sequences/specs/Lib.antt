@@ -3,3 +3,4 @@ pub mod Numbers
 pub mod Starts
 pub mod Outcomes
 pub mod Gcds
+pub mod Passes

@@ -5,6 +5,7 @@
 -- FollowNumberReady, Follows₀, FollowNumberDone == the same of the last of a row's numbers, the inverse and the divisor at places of their own
 -- slot                  == the words of one of an inverse's five slots
 -- BeginReady, Begun, BeginDone   == the two polynomials, what they carry, and the first one's inverse
+-- ledAt                 == a polynomial in its slots
 -- FinishReady, FinishDone        == n elements, then zeros, then the degree word in front of them
 use Prim.Native.Nat.{ℕ, suc, _+_, _-_, _*_, _<_, _≤_}
 use mathlib.Core.Path.{_≡_}
@@ -28,6 +29,7 @@ use Rattle.products.specs.Product.{TowerStands, Elements, Inside, Outside}
 use Rattle.products.specs.Value.{part}
 use Rattle.euclid.specs.Answer.{Answer, done, shown, long}
 use Rattle.euclid.specs.Number.{inverse₀}
+use Rattle.sequences.specs.declared.Led.{Led}
 use Rattle.sequences.specs.declared.Outcome.{Outcome}
 use Rattle.sequences.specs.declared.Outcome.the-variants.{Done, Factor}
 use Rattle.sequences.specs.declared.Turn.{Turn}
@@ -105,6 +107,10 @@ pub record BeginDone (h : ℕ) (d : List ℕ) (e : List ℤ) (e-in : Bool) (ea :
   pub frame : Kept top (5 * slot d h) w w′
   pub done : (p : ℕ) (p-pos : 0 < p) → 1 < p → (t : Tower p d (suc h)) (v : El p d (suc h))
       → TowerStands p p-pos d (suc h) t (pick e-in w e) ea → Stands p d (suc h) v (pick x-in w x) a → Begun p p-pos d h t v w′ top
+
+-- n coefficients in the slot at a; what it carries stands two slots on
+abbrev pub ledAt : (a slot unit n : ℕ) → Led
+ledAt a slot unit n = record { row = a + 1; carried = a + 2 * slot + 1; unit = unit; count = n }
 
 -- ---- the end: a slot of g coefficients of level h, its degree word before row
 pub record FinishReady (h n g s : ℕ) (d z : List ℕ) (w : List ℤ) (row : ℕ) : Type 0 where

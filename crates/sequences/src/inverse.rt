@@ -4,6 +4,7 @@
 // The five slots of a level stand from `top` on: two for the polynomials, two for what they carry, and one for the inverses of their leading coefficients.
 ghost use Prim.Native.Nat.{_<_};
 ghost use Rattle.sequences.specs.Outcomes.{InvertReady, InvertDone, RunReady, RunDone, FollowReady, FollowDone};
+ghost use Rattle.sequences.specs.Passes.{RemainderReady, RemainderDone, CloseReady, CloseDone, Underway, PassesDone};
 use super::rows::divide_row;
 use super::rows::lose_product;
 use super::rows::scale_row;
@@ -13,6 +14,7 @@ use super::starts::count_in;
 use super::starts::finish;
 use super::starts::follow_number;
 use super::starts::invert_number;
+use super::starts::led_at;
 use crate::Ended;
 use crate::Led;
 use crate::Outcome;
@@ -109,6 +111,142 @@ pub fn follow(
     }
 }
 
+// The remainder of f by k in the row of f, and what it carries in the place of what f carries.
+pub fn remainder(
+    h: usize,
+    g: usize,
+    s: usize,
+    d: [usize; 4],
+    z: [usize; 5],
+    p: u64,
+    e: &[i64],
+    e_in: bool,
+    under: usize,
+    f: Led,
+    k: Led,
+    w: &mut [i64],
+    next: usize,
+)
+    requires { ⌜ RemainderReady h g s d z p (now e) «e_in» under (f .row) (f .carried) (f .count) (k .row) (k .carried) (k .unit) (k .count) (now w) next ⌝ }
+    ensures { λ _. ⌜ RemainderDone h g s d p (now (e .entry)) «e_in» under (f .row) (f .carried) (f .count) (k .row) (k .carried) (k .unit) (k .count) (now (w .entry)) (now (w .exit)) next ⌝ }
+{
+    let n = k.count - 1;
+    let lows = g + 2 - f.count;
+    divide_row(
+        h,
+        d,
+        z,
+        p,
+        e,
+        e_in,
+        under,
+        k.row,
+        n,
+        k.unit,
+        w,
+        f.row,
+        f.count,
+        next,
+    );
+    let q = part_at(f.row, n, s);
+    lose_product(
+        h,
+        d,
+        z,
+        p,
+        e,
+        e_in,
+        under,
+        q,
+        f.count - n,
+        k.carried,
+        lows,
+        w,
+        f.carried,
+        next,
+    );
+}
+
+// The end of a sequence: k is zero, and f made monic is a factor; or k is a constant, and its inverse times what k carries is the inverse.
+pub fn close(
+    h: usize,
+    g: usize,
+    s: usize,
+    d: [usize; 4],
+    z: [usize; 5],
+    p: u64,
+    e: &[i64],
+    e_in: bool,
+    under: usize,
+    f: Led,
+    k: Led,
+    w: &mut [i64],
+    next: usize,
+) -> Ended
+    requires { ⌜ CloseReady h g s d z p (now e) «e_in» under (f .row) (f .unit) (f .count) (k .carried) (k .unit) (k .count) (now w) next ⌝ }
+    ensures { λ r. ⌜ CloseDone h g d p (now (e .entry)) «e_in» under (f .row) (f .unit) (f .count) (k .carried) (k .unit) (k .count) (now (w .entry)) (now (w .exit)) next r ⌝ }
+{
+    if k.count == 0 {
+        scale_row(h, f.count, d, z, p, e, e_in, under, f.unit, w, f.row, next);
+        finish(h, f.count, g, s, d, z, w, f.row);
+        return Ended::Divisor(h + 1, f.row - 1);
+    }
+    scale_row(h, g, d, z, p, e, e_in, under, k.unit, w, k.carried, next);
+    finish(h, g, g, s, d, z, w, k.carried);
+    Ended::Inverse(k.carried - 1)
+}
+
+// The sequence from two neighbours on: the remainders in turn, and the end.
+pub fn passes(
+    h: usize,
+    g: usize,
+    s: usize,
+    d: [usize; 4],
+    z: [usize; 5],
+    p: u64,
+    e: &[i64],
+    e_in: bool,
+    under: usize,
+    first: Led,
+    second: Led,
+    w: &mut [i64],
+    next: usize,
+) -> Ended
+    requires { ⌜ Underway h g s d z p (now e) «e_in» under (first .row) (first .carried) (first .unit) (first .count) (second .row) (second .carried) (second .unit) (second .count) (now w) next ⌝ }
+    ensures { λ r. ⌜ PassesDone h g s d z p (now (e .entry)) «e_in» under (first .row) (first .carried) (first .unit) (first .count) (second .row) (second .carried) (second .unit) (second .count) (now (w .entry)) (now (w .exit)) next r ⌝ }
+{
+    let mut f = first;
+    let mut k = second;
+    let mut left = g + 2;
+    while 1 < k.count {
+        if left == 0 {
+            return Ended::Endless;
+        }
+        left -= 1;
+        remainder(h, g, s, d, z, p, e, e_in, under, f, k, w, next);
+        let n = k.count - 1;
+        match follow(h, d, z, p, e, e_in, under, f.row, n, f.unit, w, next) {
+            Turn::Next(c) => {
+                let r = f;
+                f = k;
+                k = Led {
+                    row: r.row,
+                    carried: r.carried,
+                    unit: r.unit,
+                    count: c,
+                };
+            }
+            Turn::Shows(level, at) => {
+                return Ended::Divisor(level, at);
+            }
+            Turn::Over => {
+                return Ended::Endless;
+            }
+        }
+    }
+    close(h, g, s, d, z, p, e, e_in, under, f, k, w, next)
+}
+
 // The inverse at level i, above 0: the answer stands where the result says, among the words from top on.
 pub fn run(
     i: usize,
@@ -135,118 +273,13 @@ pub fn run(
     let next = top + 5 * slot;
     let n = count_in(x, x_in, a, w);
     begin(h, g, s, d, z, e, e_in, ea, x, x_in, a, w, top);
-    let mut f = Led {
-        row: top + 1,
-        carried: top + 2 * slot + 1,
-        unit: top + 4 * slot,
-        count: g + 1,
-    };
-    let mut k = Led {
-        row: top + slot + 1,
-        carried: top + 3 * slot + 1,
-        unit: top + 4 * slot + s,
-        count: n,
-    };
-    match invert(
-        h,
-        d,
-        z,
-        p,
-        e,
-        e_in,
-        under,
-        e,
-        true,
-        part_at(k.row, n - 1, s),
-        w,
-        k.unit,
-        next,
-    ) {
-        Outcome::Done => {}
-        Outcome::Factor(level) => {
-            return Ended::Divisor(level, k.unit);
-        }
-        Outcome::Long => {
-            return Ended::Endless;
-        }
+    let unit = top + 4 * slot;
+    let f = led_at(top, slot, unit, g + 1);
+    let k = led_at(top + slot, slot, unit + s, n);
+    let at = part_at(k.row, n - 1, s);
+    match invert(h, d, z, p, e, e_in, under, e, true, at, w, k.unit, next) {
+        Outcome::Done => passes(h, g, s, d, z, p, e, e_in, under, f, k, w, next),
+        Outcome::Factor(level) => Ended::Divisor(level, k.unit),
+        Outcome::Long => Ended::Endless,
     }
-    let mut left = g + 2;
-    while 1 < k.count {
-        if left == 0 {
-            return Ended::Endless;
-        }
-        left -= 1;
-        divide_row(
-            h,
-            d,
-            z,
-            p,
-            e,
-            e_in,
-            under,
-            k.row,
-            k.count - 1,
-            k.unit,
-            w,
-            f.row,
-            f.count,
-            next,
-        );
-        let q = part_at(f.row, k.count - 1, s);
-        lose_product(
-            h,
-            d,
-            z,
-            p,
-            e,
-            e_in,
-            under,
-            q,
-            f.count - k.count + 1,
-            k.carried,
-            g + 2 - f.count,
-            w,
-            f.carried,
-            next,
-        );
-        match follow(
-            h,
-            d,
-            z,
-            p,
-            e,
-            e_in,
-            under,
-            f.row,
-            k.count - 1,
-            f.unit,
-            w,
-            next,
-        ) {
-            Turn::Next(c) => {
-                let r = f;
-                f = k;
-                k = Led {
-                    row: r.row,
-                    carried: r.carried,
-                    unit: r.unit,
-                    count: c,
-                };
-            }
-            Turn::Shows(level, at) => {
-                return Ended::Divisor(level, at);
-            }
-            Turn::Over => {
-                return Ended::Endless;
-            }
-        }
-    }
-    if k.count == 0 {
-        scale_row(h, f.count, d, z, p, e, e_in, under, f.unit, w, f.row, next);
-        finish(h, f.count, g, s, d, z, w, f.row);
-        return Ended::Divisor(i, f.row - 1);
-    }
-    scale_row(h, g, d, z, p, e, e_in, under, k.unit, w, k.carried, next);
-    finish(h, g, g, s, d, z, w, k.carried);
-    Ended::Inverse(k.carried - 1)
 }

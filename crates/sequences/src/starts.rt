@@ -1,6 +1,6 @@
 // How an inverse begins and ends: its polynomials and what they carry, and the answer as an element.
 ghost use mathlib.Core.Path.{_≡_};
-ghost use Prim.Native.Nat.{_<_};
+ghost use Prim.Native.Nat.{_+_, _*_, _^_, _<_};
 ghost use lib.IntN.{pos};
 ghost use lib.ListN.{length, getD};
 ghost use Rattle.residue.specs.Word.{at};
@@ -8,7 +8,8 @@ ghost use Rattle.tower.specs.Form.{seg};
 ghost use Rattle.tower.specs.Store.{Put};
 ghost use Rattle.tower.specs.Writing.{countOf};
 ghost use Rattle.arithmetic.specs.Walk.{pick, Readable};
-ghost use Rattle.sequences.specs.Starts.{BringReady, NumberReady, NumberDone, FollowNumberReady, FollowNumberDone, BeginReady, BeginDone, FinishReady, FinishDone};
+ghost use Rattle.sequences.specs.Starts.{BringReady, NumberReady, NumberDone, FollowNumberReady, FollowNumberDone, BeginReady, BeginDone, ledAt, FinishReady, FinishDone};
+use crate::Led;
 use crate::Outcome;
 use crate::Turn;
 use arithmetic::places::part_at;
@@ -117,6 +118,19 @@ pub fn begin(
     zeros(h, g, d, z, w, top + 3 * slot + 1);
     one(h, d, z, w, top + 3 * slot + 1);
     one(h, d, z, w, top + 4 * slot);
+}
+
+// A polynomial of n coefficients behind the first word of the slot at a; what it carries stands two slots on, and the inverse of its leading coefficient at unit.
+pub fn led_at(a: usize, slot: usize, unit: usize, n: usize) -> Led
+    requires { ⌜ a + 2 * slot + 1 < 2 ^ 64 ⌝ }
+    ensures { λ r. ⌜ r ≡ ledAt a slot unit n ⌝ }
+{
+    Led {
+        row: a + 1,
+        carried: a + 2 * slot + 1,
+        unit,
+        count: n,
+    }
 }
 
 // The n elements at row become an element of the level above: zeros up to its g coefficients, and the degree word in front of them.

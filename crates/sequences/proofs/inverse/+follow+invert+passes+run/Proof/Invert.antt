@@ -6,11 +6,11 @@ use Rattle.sequences.proofs.StartLaws.{number-asks, number-done}
 use Rattle.sequences.proofs.InvertLaws.{invert-level, invert-endless, copies-inverse, gives-inverse, copies-divisor, gives-divisor}
 use Rattle.sequences.proofs.inverse.invert.Reads as invert
 use Rattle.sequences.proofs.inverse.run.Reads as run
-use Rattle.sequences.proofs.inverse.+follow+invert+run.Lts-invert as invert-lts
+use Rattle.sequences.proofs.inverse.+follow+invert+passes+run.Lts-invert as invert-lts
 use Rattle.sequences.proofs.starts.invert_number.Reads as invert-number-reads
 use Rattle.tower.proofs.sizes.size_at.Reads as size-at-reads
 use Rattle.tower.proofs.store.copy.Reads as copy-reads
-use Rattle.sequences.proofs.inverse.+follow+invert+run.Proof.Claims.{invert-at, run-below}
+use Rattle.sequences.proofs.inverse.+follow+invert+passes+run.Proof.Claims.{invert-at, run-below}
 
 abbrev cs : ℕ → invert-lts.Claims
 cs t = (

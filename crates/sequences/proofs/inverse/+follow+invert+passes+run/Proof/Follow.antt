@@ -6,13 +6,13 @@ use Rattle.sequences.proofs.FollowLaws.{searches, follows-zero, follows
 use Rattle.sequences.proofs.FollowNumbers.{numbers-ask, numbers-follow}
 use Rattle.sequences.proofs.inverse.follow.Reads as follow
 use Rattle.sequences.proofs.inverse.invert.Reads as invert
-use Rattle.sequences.proofs.inverse.+follow+invert+run.Lts-follow as follow-lts
+use Rattle.sequences.proofs.inverse.+follow+invert+passes+run.Lts-follow as follow-lts
 use Rattle.tower.proofs.sizes.size_at.Reads as size-at-reads
 use Rattle.arithmetic.proofs.rows.top_of.Reads as top-of-reads
 use Rattle.arithmetic.proofs.places.part_at.Reads as part-at-reads
 use Rattle.sequences.proofs.rows.times.Reads as times-reads
 use Rattle.sequences.proofs.starts.follow_number.Reads as follow-number-reads
-use Rattle.sequences.proofs.inverse.+follow+invert+run.Proof.Claims.{follow-at, invert-below}
+use Rattle.sequences.proofs.inverse.+follow+invert+passes+run.Proof.Claims.{follow-at, invert-below}
 
 abbrev cs : ℕ → follow-lts.Claims
 cs t = (
