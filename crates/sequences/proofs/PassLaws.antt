@@ -19,6 +19,7 @@ use Rattle.tower.specs.Writing.{size, size-pos}
 use Rattle.arithmetic.specs.Rows.{block-inside}
 use Rattle.sequences.specs.declared.Ended.{Ended}
 use Rattle.sequences.specs.declared.Ended.the-variants.{Divisor}
+use Rattle.sequences.specs.declared.Led.{Led}
 use Rattle.sequences.specs.declared.Turn.{Turn}
 use Rattle.sequences.specs.declared.Turn.the-variants.{Next, Shows, Over}
 use Rattle.sequences.specs.Rows.{ScaleRowDone, LoseDone, DivideDone}
@@ -30,7 +31,8 @@ use Rattle.sequences.proofs.StateLaws.{loop-few, loop-counts, loop-divi
 use Rattle.sequences.proofs.EndLaws.{end-factor-asks, end-factor-finish, end-factor, end-inverse-asks, end-inverse-finish, end-inverse}
 
 module _ {h g s : ℕ} {d z : List ℕ} {p : ℕ} {e : List ℤ} {e-in : Bool} {ea : ℕ} {x : List ℤ} {x-in : Bool} {a : ℕ} {w₀ : List ℤ} {top under next : ℕ}
-    (q : Figures h d ea top g s under next) {fr fc fu fn kr kc ku kn : ℕ} {w : List ℤ} (l : Looping h d z p e e-in ea x x-in a w₀ top fr fc fu fn kr kc ku kn w) where
+    (q : Figures h d ea top g s under next) (f k : Led) {w : List ℤ}
+    (l : Looping h d z p e e-in ea x x-in a w₀ top (f .row) (f .carried) (f .unit) (f .count) (k .row) (k .carried) (k .unit) (k .count) w) where
   abbrev eg : g ≡ degree d h
   eg = q .degree-is
 
@@ -51,20 +53,20 @@ module _ {h g s : ℕ} {d z : List ℕ} {p : ℕ} {e : List ℤ} {e-in : Bool} {
   slots-wide = rw eg (omega (arith, mul-le-mul-left (degree d h + 1) (size-pos d h), slots-fit))
 
   -- the level's numbers for the code's
-  divided-there : {v : List ℤ} → DivideDone h d p e e-in under kr (kn - 1) ku w v fr fn next
-      → DivideDone h d p e e-in (underOf d h ea) kr (kn - 1) ku w v fr fn (nextOf d h top)
+  divided-there : {v : List ℤ} → DivideDone h d p e e-in under (k .row) (k .count - 1) (k .unit) w v (f .row) (f .count) next
+      → DivideDone h d p e e-in (underOf d h ea) (k .row) (k .count - 1) (k .unit) w v (f .row) (f .count) (nextOf d h top)
   divided-there y = rw (eu, en) at y
 
   scaled-there : {n u c : ℕ} {v : List ℤ} → ScaleRowDone h n d p e e-in under u w v c next → ScaleRowDone h n d p e e-in (underOf d h ea) u w v c (nextOf d h top)
   scaled-there y = rw (eu, en) at y
 
-  module _ (more : 1 < kn) where
-    pub pass-counts : (kn < fn) × (fn ≤ g + 1)
+  module _ (more : 1 < k .count) where
+    pass-counts : (k .count < f .count) × (f .count ≤ g + 1)
     pass-counts = rw eg (loop-counts l more)
 
-    pub pass-asks : RemainderReady h g s d z p e e-in under fr fc fn kr kc ku kn w next
+    pub pass-asks : RemainderReady h g s d z p e e-in under f k w next
     pass-asks =
-        let row = block-inside (kn - 1) (degree d h + 1) (size d h) (omega (arith, loop-counts l more)) in
+        let row = block-inside (k .count - 1) (degree d h + 1) (size d h) (omega (arith, loop-counts l more)) in
         record {
           some = omega (arith, more);
           fewer = omega (arith, pass-counts);
@@ -75,22 +77,24 @@ module _ {h g s : ℕ} {d z : List ℕ} {p : ℕ} {e : List ℤ} {e-in : Bool} {
           lose = λ v y. rw (eu, en, eg, es) (loop-lose l more (divided-there y));
         }
 
-    module _ {w₂ : List ℤ} (m : RemainderDone h g s d p e e-in under fr fc fn kr kc ku kn w w₂ next) where
-      lost-there : {v : List ℤ} → LoseDone h d p e e-in under (fr + (kn - 1) * s) (fn - (kn - 1)) kc (g + 2 - fn) v w₂ fc next
-          → LoseDone h d p e e-in (underOf d h ea) (fr + (kn - 1) * size d h) (fn - (kn - 1)) kc (degree d h + 2 - fn) v w₂ fc (nextOf d h top)
+    module _ {w₂ : List ℤ} (m : RemainderDone h g s d p e e-in under f k w w₂ next) where
+      lost-there : {v : List ℤ}
+          → LoseDone h d p e e-in under (f .row + (k .count - 1) * s) (f .count - (k .count - 1)) (k .carried) (g + 2 - f .count) v w₂ (f .carried) next
+          → LoseDone h d p e e-in (underOf d h ea) (f .row + (k .count - 1) * size d h) (f .count - (k .count - 1)) (k .carried) (degree d h + 2 - f .count)
+          v w₂ (f .carried) (nextOf d h top)
       lost-there y = rw (eu, en, eg, es) at y
 
-      pub pass-follows : FollowReady h d z p e e-in under fr (kn - 1) fu w₂ next
+      pub pass-follows : FollowReady h d z p e e-in under (f .row) (k .count - 1) (f .unit) w₂ next
       pass-follows = rw (eu, en) (loop-follow l more (divided-there (m .divided)) (lost-there (m .lost)))
 
-      module _ {w₃ : List ℤ} (c : Turn) (follow : FollowDone h d p e e-in under fr (kn - 1) fu w₂ w₃ next c) where
-        followed : FollowDone h d p e e-in (underOf d h ea) fr (kn - 1) fu w₂ w₃ (nextOf d h top) c
+      module _ {w₃ : List ℤ} (c : Turn) (follow : FollowDone h d p e e-in under (f .row) (k .count - 1) (f .unit) w₂ w₃ next c) where
+        followed : FollowDone h d p e e-in (underOf d h ea) (f .row) (k .count - 1) (f .unit) w₂ w₃ (nextOf d h top) c
         followed = rw (eu, en) at follow
 
-        pub pass-fewer : (n : ℕ) → c ≡ Next n → n < kn
+        pub pass-fewer : (n : ℕ) → c ≡ Next n → n < k .count
         pass-fewer = loop-fewer l more (divided-there (m .divided)) (lost-there (m .lost)) c followed
 
-        pub pass-next : (n : ℕ) → c ≡ Next n → Looping h d z p e e-in ea x x-in a w₀ top kr kc ku kn fr fc fu n w₃
+        pub pass-next : (n : ℕ) → c ≡ Next n → Looping h d z p e e-in ea x x-in a w₀ top (k .row) (k .carried) (k .unit) (k .count) (f .row) (f .carried) (f .unit) n w₃
         pass-next = loop-next l more (divided-there (m .divided)) (lost-there (m .lost)) c followed
 
         pub pass-shows : (i at : ℕ) → c ≡ Shows i at → RunDone (suc h) d p e e-in ea x x-in a w₀ w₃ top (Divisor i at)
@@ -100,11 +104,12 @@ module _ {h g s : ℕ} {d z : List ℕ} {p : ℕ} {e : List ℤ} {e-in : Bool} {
         pass-over = loop-over l more (divided-there (m .divided)) (lost-there (m .lost)) c followed
 
   -- ---- the end
-  module _ (last : kn ≤ 1) where
-    carried-there : {v : List ℤ} → ScaleRowDone h g d p e e-in under ku w v kc next → ScaleRowDone h (degree d h) d p e e-in (underOf d h ea) ku w v kc (nextOf d h top)
+  module _ (last : k .count ≤ 1) where
+    carried-there : {v : List ℤ} → ScaleRowDone h g d p e e-in under (k .unit) w v (k .carried) next
+        → ScaleRowDone h (degree d h) d p e e-in (underOf d h ea) (k .unit) w v (k .carried) (nextOf d h top)
     carried-there y = rw (eu, en, eg) at y
 
-    pub close-asks : CloseReady h g s d z p e e-in under fr fu fn kc ku kn w next
+    pub close-asks : CloseReady h g s d z p e e-in under f k w next
     close-asks = record {
       low = omega (arith, l .ready .low);
       factor = λ none. record {
@@ -120,79 +125,80 @@ module _ {h g s : ℕ} {d z : List ℕ} {p : ℕ} {e : List ℤ} {e-in : Bool} {
     }
 
     module _ {w′ : List ℤ} where
-      factor-there : {v : List ℤ} → FinishDone h fn g d v w′ fr → FinishDone h fn (degree d h) d v w′ fr
+      factor-there : {v : List ℤ} → FinishDone h (f .count) g d v w′ (f .row) → FinishDone h (f .count) (degree d h) d v w′ (f .row)
       factor-there y = rw eg at y
 
-      inverse-there : {v : List ℤ} → FinishDone h g g d v w′ kc → FinishDone h (degree d h) (degree d h) d v w′ kc
+      inverse-there : {v : List ℤ} → FinishDone h g g d v w′ (k .carried) → FinishDone h (degree d h) (degree d h) d v w′ (k .carried)
       inverse-there y = rw eg at y
 
-      pub closes : (r : Ended) → CloseDone h g d p e e-in under fr fu fn kc ku kn w w′ next r → RunDone (suc h) d p e e-in ea x x-in a w₀ w′ top r
-      closes r y = go (le-or-lt 1 kn)
+      pub closes : (r : Ended) → CloseDone h g d p e e-in under f k w w′ next r → RunDone (suc h) d p e e-in ea x x-in a w₀ w′ top r
+      closes r y = go (le-or-lt 1 (k .count))
         where
           Ends : Ended → Type 0
           Ends o = RunDone (suc h) d p e e-in ea x x-in a w₀ w′ top o
 
-          go : (1 ≤ kn) ⊎ (kn < 1) → RunDone (suc h) d p e e-in ea x x-in a w₀ w′ top r
+          go : (1 ≤ k .count) ⊎ (k .count < 1) → RunDone (suc h) d p e e-in ea x x-in a w₀ w′ top r
           go (inl c) =
-              let some : ¬ (kn ≡ 0) = λ none. lt-irrefl 0 (omega (arith, c, none)) in
+              let some : ¬ (k .count ≡ 0) = λ none. lt-irrefl 0 (omega (arith, c, none)) in
               let m = y .inverse some in
               subst Ends (sym (m .0)) (end-inverse l some last (carried-there (m .1 .scaled)) (inverse-there (m .1 .finished)))
           go (inr c) =
-              let none : kn ≡ 0 = omega (arith, c) in
+              let none : k .count ≡ 0 = omega (arith, c) in
               let m = y .factor none in
               subst Ends (sym (m .0)) (end-factor l none (scaled-there (m .1 .scaled)) (factor-there (m .1 .finished)))
 
 -- ---- the loop
-module _ (h g s : ℕ) (d z : List ℕ) (p : ℕ) (e : List ℤ) (e-in : Bool) (under fr₀ fc₀ fu₀ fn₀ kr₀ kc₀ ku₀ kn₀ : ℕ) (w₀ : List ℤ) (next : ℕ) where
+module _ (h g s : ℕ) (d z : List ℕ) (p : ℕ) (e : List ℤ) (e-in : Bool) (under : ℕ) (f₀ k₀ : Led) (w₀ : List ℤ) (next : ℕ) where
   abbrev Before : Type 0
-  Before = Underway h g s d z p e e-in under fr₀ fc₀ fu₀ fn₀ kr₀ kc₀ ku₀ kn₀ w₀ next
+  Before = Underway h g s d z p e e-in under f₀ k₀ w₀ next
 
   -- left remainders are allowed yet, and whatever inverse was underway has come to f and k
-  pub record Passing (fr fc fu fn kr kc ku kn left : ℕ) (w : List ℤ) : Type 0 where
-    pub few : kn ≤ left
-    pub on : (u : Before) → Looping h d z p e e-in (u .ea) (u .x) (u .x-in) (u .a) (u .w₀) (u .top) fr fc fu fn kr kc ku kn w
+  pub record Passing (f k : Led) (left : ℕ) (w : List ℤ) : Type 0 where
+    pub few : k .count ≤ left
+    pub on : (u : Before)
+        → Looping h d z p e e-in (u .ea) (u .x) (u .x-in) (u .a) (u .w₀) (u .top) (f .row) (f .carried) (f .unit) (f .count) (k .row) (k .carried) (k .unit) (k .count) w
 
-module _ {h g s : ℕ} {d z : List ℕ} {p : ℕ} {e : List ℤ} {e-in : Bool} {under fr₀ fc₀ fu₀ fn₀ kr₀ kc₀ ku₀ kn₀ : ℕ} {w₀ : List ℤ} {next : ℕ}
-    (u : Underway h g s d z p e e-in under fr₀ fc₀ fu₀ fn₀ kr₀ kc₀ ku₀ kn₀ w₀ next) where
+module _ {h g s : ℕ} {d z : List ℕ} {p : ℕ} {e : List ℤ} {e-in : Bool} {under : ℕ} {f₀ k₀ : Led} {w₀ : List ℤ} {next : ℕ}
+    (u : Underway h g s d z p e e-in under f₀ k₀ w₀ next) where
   pub passes-fit : g + 2 ≤ length w₀
-  passes-fit = slots-wide (u .figures) (u .looping)
+  passes-fit = slots-wide (u .figures) f₀ k₀ (u .looping)
 
-  pub passes-long : {w : List ℤ} {r : Ended} → PassesDone h g s d z p e e-in under fr₀ fc₀ fu₀ fn₀ kr₀ kc₀ ku₀ kn₀ w₀ w next r → length w ≡ length w₀
+  pub passes-long : {w : List ℤ} {r : Ended} → PassesDone h g s d z p e e-in under f₀ k₀ w₀ w next r → length w ≡ length w₀
   passes-long y = y .done u .frame .long ∙ sym (u .looping .frame .long)
 
-  pub passing-start : Passing h g s d z p e e-in under fr₀ fc₀ fu₀ fn₀ kr₀ kc₀ ku₀ kn₀ w₀ next fr₀ fc₀ fu₀ fn₀ kr₀ kc₀ ku₀ kn₀ (g + 2) w₀
+  pub passing-start : Passing h g s d z p e e-in under f₀ k₀ w₀ next f₀ k₀ (g + 2) w₀
   passing-start = record { few = omega (arith, loop-few (u .looping), u .figures .degree-is); on = λ v. v .looping }
 
-  module _ {fr fc fu fn kr kc ku kn left : ℕ} {w : List ℤ}
-      (l : Passing h g s d z p e e-in under fr₀ fc₀ fu₀ fn₀ kr₀ kc₀ ku₀ kn₀ w₀ next fr fc fu fn kr kc ku kn left w) where
-    module _ (more : 1 < kn) where
-      pub passing-asks : RemainderReady h g s d z p e e-in under fr fc fn kr kc ku kn w next
-      passing-asks = pass-asks (u .figures) (l .on u) more
+  module _ {f k : Led} {left : ℕ} {w : List ℤ} (l : Passing h g s d z p e e-in under f₀ k₀ w₀ next f k left w) where
+    module _ (more : 1 < k .count) where
+      pub passing-asks : RemainderReady h g s d z p e e-in under f k w next
+      passing-asks = pass-asks (u .figures) f k (l .on u) more
 
-      module _ {w₂ : List ℤ} (m : RemainderDone h g s d p e e-in under fr fc fn kr kc ku kn w w₂ next) where
-        pub passing-follows : FollowReady h d z p e e-in under fr (kn - 1) fu w₂ next
-        passing-follows = pass-follows (u .figures) (l .on u) more m
+      module _ {w₂ : List ℤ} (m : RemainderDone h g s d p e e-in under f k w w₂ next) where
+        pub passing-follows : FollowReady h d z p e e-in under (f .row) (k .count - 1) (f .unit) w₂ next
+        passing-follows = pass-follows (u .figures) f k (l .on u) more m
 
-        module _ {w₃ : List ℤ} (c : Turn) (follow : FollowDone h d p e e-in under fr (kn - 1) fu w₂ w₃ next c) where
-          pub passing-fewer : (n : ℕ) → c ≡ Next n → n < kn
-          passing-fewer = pass-fewer (u .figures) (l .on u) more m c follow
+        module _ {w₃ : List ℤ} (c : Turn) (follow : FollowDone h d p e e-in under (f .row) (k .count - 1) (f .unit) w₂ w₃ next c) where
+          pub passing-fewer : (n : ℕ) → c ≡ Next n → n < k .count
+          passing-fewer = pass-fewer (u .figures) f k (l .on u) more m c follow
 
-          pub passing-next : (n : ℕ) → c ≡ Next n → Passing h g s d z p e e-in under fr₀ fc₀ fu₀ fn₀ kr₀ kc₀ ku₀ kn₀ w₀ next kr kc ku kn fr fc fu n (left - 1) w₃
+          pub passing-next : (n : ℕ) → c ≡ Next n
+              → Passing h g s d z p e e-in under f₀ k₀ w₀ next k (record { row = f .row; carried = f .carried; unit = f .unit; count = n }) (left - 1) w₃
           passing-next n ec = record {
             few = omega (arith, passing-fewer n ec, l .few);
-            on = λ v. pass-next (v .figures) (l .on v) more m c follow n ec;
+            on = λ v. pass-next (v .figures) f k (l .on v) more m c follow n ec;
           }
 
-          pub passing-shows : (i at : ℕ) → c ≡ Shows i at → PassesDone h g s d z p e e-in under fr₀ fc₀ fu₀ fn₀ kr₀ kc₀ ku₀ kn₀ w₀ w₃ next (Divisor i at)
-          passing-shows i at ec = record { done = λ v. pass-shows (v .figures) (l .on v) more m c follow i at ec }
+          pub passing-shows : (i at : ℕ) → c ≡ Shows i at → PassesDone h g s d z p e e-in under f₀ k₀ w₀ w₃ next (Divisor i at)
+          passing-shows i at ec = record { done = λ v. pass-shows (v .figures) f k (l .on v) more m c follow i at ec }
 
           pub passing-over : c ≡ Over → ⊥
-          passing-over = pass-over (u .figures) (l .on u) more m c follow
+          passing-over = pass-over (u .figures) f k (l .on u) more m c follow
 
-    module _ (last : kn ≤ 1) where
-      pub passing-closes : CloseReady h g s d z p e e-in under fr fu fn kc ku kn w next
-      passing-closes = close-asks (u .figures) (l .on u) last
+    module _ (last : k .count ≤ 1) where
+      pub passing-closes : CloseReady h g s d z p e e-in under f k w next
+      passing-closes = close-asks (u .figures) f k (l .on u) last
 
-      pub passing-ends : {w′ : List ℤ} (r : Ended) → CloseDone h g d p e e-in under fr fu fn kc ku kn w w′ next r
-          → PassesDone h g s d z p e e-in under fr₀ fc₀ fu₀ fn₀ kr₀ kc₀ ku₀ kn₀ w₀ w′ next r
-      passing-ends r y = record { done = λ v. closes (v .figures) (l .on v) last r y }
+      pub passing-ends : {w′ : List ℤ} (r : Ended) → CloseDone h g d p e e-in under f k w w′ next r
+          → PassesDone h g s d z p e e-in under f₀ k₀ w₀ w′ next r
+      passing-ends r y = record { done = λ v. closes (v .figures) f k (l .on v) last r y }

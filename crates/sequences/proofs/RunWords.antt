@@ -123,7 +123,7 @@ module _ {I : ℕ} {d z : List ℕ} {p : ℕ} {e : List ℤ} {e-in : Bool} {ea :
                 subst (λ y. From y k) (sym ef) (subst (From _) (sym ek) (rw (third, eg, one-size) (begin-going ready at-first began c inverted ec)))
 
             abbrev underway : c ≡ Done
-                → Underway j g s d z p e e-in (ea + S + s) (f .row) (f .carried) (f .unit) (f .count) (k .row) (k .carried) (k .unit) (k .count) w₂ (top + 5 * ((g + 1) * s + 1))
+                → Underway j g s d z p e e-in (ea + S + s) f k w₂ (top + 5 * ((g + 1) * s + 1))
             underway ec = record {
               ea = ea;
               x = x;
@@ -136,11 +136,11 @@ module _ {I : ℕ} {d z : List ℕ} {p : ℕ} {e : List ℤ} {e-in : Bool} {ea :
             }
 
             pub run-underway : c ≡ Done
-                → Underway j g s d z p e e-in (ea + S + s) (f .row) (f .carried) (f .unit) (f .count) (k .row) (k .carried) (k .unit) (k .count) w₂ (top + 5 * ((g + 1) * s + 1))
+                → Underway j g s d z p e e-in (ea + S + s) f k w₂ (top + 5 * ((g + 1) * s + 1))
             run-underway = underway
 
             pub run-passes : {w : List ℤ} (o : Ended) → c ≡ Done
-                → PassesDone j g s d z p e e-in (ea + S + s) (f .row) (f .carried) (f .unit) (f .count) (k .row) (k .carried) (k .unit) (k .count) w₂ w
+                → PassesDone j g s d z p e e-in (ea + S + s) f k w₂ w
                 (top + 5 * ((g + 1) * s + 1)) o
                 → RunDone I d p e e-in ea x x-in a w₀ w top o
             run-passes o ec y = told o (y .done (underway ec))

@@ -32,6 +32,7 @@ use Rattle.euclid.specs.Level.{Level, Mon, beneath}
 use Rattle.euclid.specs.Towers.{inv, level}
 use Rattle.sequences.specs.declared.Ended.{Ended}
 use Rattle.sequences.specs.declared.Ended.the-variants.{Inverse, Divisor}
+use Rattle.sequences.specs.declared.Led.{Led as Place}
 use Rattle.sequences.specs.Rows.{Between, ScaleRowReady, ScaleRowDone, LoseReady, LoseDone, DivideReady, DivideDone}
 use Rattle.sequences.specs.Starts.{FinishReady, FinishDone}
 use Rattle.sequences.specs.Outcomes.{RunReady, RunDone}
@@ -141,7 +142,7 @@ pub record Figures (h : ℕ) (d : List ℕ) (ea top g s under next : ℕ) : Type
   pub next-is : next ≡ nextOf d h top
 
 -- an inverse of some element was asked for, with these numbers, and has come so far
-pub record Underway (h g s : ℕ) (d z : List ℕ) (p : ℕ) (e : List ℤ) (e-in : Bool) (under fr fc fu fn kr kc ku kn : ℕ) (w : List ℤ) (next : ℕ) : Type 0 where
+pub record Underway (h g s : ℕ) (d z : List ℕ) (p : ℕ) (e : List ℤ) (e-in : Bool) (under : ℕ) (f k : Place) (w : List ℤ) (next : ℕ) : Type 0 where
   pub ea : ℕ
   pub x : List ℤ
   pub x-in : Bool
@@ -149,29 +150,29 @@ pub record Underway (h g s : ℕ) (d z : List ℕ) (p : ℕ) (e : List ℤ) (e-i
   pub w₀ : List ℤ
   pub top : ℕ
   pub figures : Figures h d ea top g s under next
-  pub looping : Looping h d z p e e-in ea x x-in a w₀ top fr fc fu fn kr kc ku kn w
+  pub looping : Looping h d z p e e-in ea x x-in a w₀ top (f .row) (f .carried) (f .unit) (f .count) (k .row) (k .carried) (k .unit) (k .count) w
 
 -- whatever it was, it is done
-pub record PassesDone (h g s : ℕ) (d z : List ℕ) (p : ℕ) (e : List ℤ) (e-in : Bool) (under fr fc fu fn kr kc ku kn : ℕ) (w w′ : List ℤ) (next : ℕ) (r : Ended) : Type 0 where
-  pub done : (u : Underway h g s d z p e e-in under fr fc fu fn kr kc ku kn w next) → RunDone (suc h) d p e e-in (u .ea) (u .x) (u .x-in) (u .a) (u .w₀) w′ (u .top) r
+pub record PassesDone (h g s : ℕ) (d z : List ℕ) (p : ℕ) (e : List ℤ) (e-in : Bool) (under : ℕ) (f k : Place) (w w′ : List ℤ) (next : ℕ) (r : Ended) : Type 0 where
+  pub done : (u : Underway h g s d z p e e-in under f k w next) → RunDone (suc h) d p e e-in (u .ea) (u .x) (u .x-in) (u .a) (u .w₀) w′ (u .top) r
 
 -- ---- the steps, as they ask for what they call
 -- f's row is divided by k's, and what f carries loses the quotient times what k carries
-pub record RemainderReady (h g s : ℕ) (d z : List ℕ) (p : ℕ) (e : List ℤ) (e-in : Bool) (under fr fc fn kr kc ku kn : ℕ) (w : List ℤ) (next : ℕ) : Type 0 where
-  pub some : 0 < kn
-  pub fewer : kn ≤ fn
-  pub most : fn ≤ g + 1
+pub record RemainderReady (h g s : ℕ) (d z : List ℕ) (p : ℕ) (e : List ℤ) (e-in : Bool) (under : ℕ) (f k : Place) (w : List ℤ) (next : ℕ) : Type 0 where
+  pub some : 0 < k .count
+  pub fewer : k .count ≤ f .count
+  pub most : f .count ≤ g + 1
   pub few : g + 2 ≤ length w
-  pub inside : fr + (kn - 1) * s ≤ length w
-  pub divide : DivideReady h d z p e e-in under kr (kn - 1) ku w fr fn next
-  pub lose : (v : List ℤ) → DivideDone h d p e e-in under kr (kn - 1) ku w v fr fn next
-      → LoseReady h d z p e e-in under (fr + (kn - 1) * s) (fn - (kn - 1)) kc (g + 2 - fn) v fc next
+  pub inside : f .row + (k .count - 1) * s ≤ length w
+  pub divide : DivideReady h d z p e e-in under (k .row) (k .count - 1) (k .unit) w (f .row) (f .count) next
+  pub lose : (v : List ℤ) → DivideDone h d p e e-in under (k .row) (k .count - 1) (k .unit) w v (f .row) (f .count) next
+      → LoseReady h d z p e e-in under (f .row + (k .count - 1) * s) (f .count - (k .count - 1)) (k .carried) (g + 2 - f .count) v (f .carried) next
 
 -- v is the store between the two
-pub record RemainderDone (h g s : ℕ) (d : List ℕ) (p : ℕ) (e : List ℤ) (e-in : Bool) (under fr fc fn kr kc ku kn : ℕ) (w w′ : List ℤ) (next : ℕ) : Type 0 where
+pub record RemainderDone (h g s : ℕ) (d : List ℕ) (p : ℕ) (e : List ℤ) (e-in : Bool) (under : ℕ) (f k : Place) (w w′ : List ℤ) (next : ℕ) : Type 0 where
   pub v : List ℤ
-  pub divided : DivideDone h d p e e-in under kr (kn - 1) ku w v fr fn next
-  pub lost : LoseDone h d p e e-in under (fr + (kn - 1) * s) (fn - (kn - 1)) kc (g + 2 - fn) v w′ fc next
+  pub divided : DivideDone h d p e e-in under (k .row) (k .count - 1) (k .unit) w v (f .row) (f .count) next
+  pub lost : LoseDone h d p e e-in under (f .row + (k .count - 1) * s) (f .count - (k .count - 1)) (k .carried) (g + 2 - f .count) v w′ (f .carried) next
 
 -- the n coefficients at row are multiplied by the one at unit, and made an element of g coefficients
 pub record Settling (h n g s : ℕ) (d z : List ℕ) (p : ℕ) (e : List ℤ) (e-in : Bool) (under unit : ℕ) (w : List ℤ) (row next : ℕ) : Type 0 where
@@ -185,11 +186,11 @@ pub record Settled (h n g : ℕ) (d : List ℕ) (p : ℕ) (e : List ℤ) (e-in :
   pub scaled : ScaleRowDone h n d p e e-in under unit w v row next
   pub finished : FinishDone h n g d v w′ row
 
-pub record CloseReady (h g s : ℕ) (d z : List ℕ) (p : ℕ) (e : List ℤ) (e-in : Bool) (under fr fu fn kc ku kn : ℕ) (w : List ℤ) (next : ℕ) : Type 0 where
+pub record CloseReady (h g s : ℕ) (d z : List ℕ) (p : ℕ) (e : List ℤ) (e-in : Bool) (under : ℕ) (f k : Place) (w : List ℤ) (next : ℕ) : Type 0 where
   pub low : h ≤ 4
-  pub factor : kn ≡ 0 → Settling h fn g s d z p e e-in under fu w fr next
-  pub inverse : ¬ (kn ≡ 0) → Settling h g g s d z p e e-in under ku w kc next
+  pub factor : k .count ≡ 0 → Settling h (f .count) g s d z p e e-in under (f .unit) w (f .row) next
+  pub inverse : ¬ (k .count ≡ 0) → Settling h g g s d z p e e-in under (k .unit) w (k .carried) next
 
-pub record CloseDone (h g : ℕ) (d : List ℕ) (p : ℕ) (e : List ℤ) (e-in : Bool) (under fr fu fn kc ku kn : ℕ) (w w′ : List ℤ) (next : ℕ) (r : Ended) : Type 0 where
-  pub factor : kn ≡ 0 → (r ≡ Divisor (suc h) (fr - 1)) × Settled h fn g d p e e-in under fu w w′ fr next
-  pub inverse : ¬ (kn ≡ 0) → (r ≡ Inverse (kc - 1)) × Settled h g g d p e e-in under ku w w′ kc next
+pub record CloseDone (h g : ℕ) (d : List ℕ) (p : ℕ) (e : List ℤ) (e-in : Bool) (under : ℕ) (f k : Place) (w w′ : List ℤ) (next : ℕ) (r : Ended) : Type 0 where
+  pub factor : k .count ≡ 0 → (r ≡ Divisor (suc h) (f .row - 1)) × Settled h (f .count) g d p e e-in under (f .unit) w w′ (f .row) next
+  pub inverse : ¬ (k .count ≡ 0) → (r ≡ Inverse (k .carried - 1)) × Settled h g g d p e e-in under (k .unit) w w′ (k .carried) next

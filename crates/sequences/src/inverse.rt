@@ -127,8 +127,8 @@ pub fn remainder(
     w: &mut [i64],
     next: usize,
 )
-    requires { ⌜ RemainderReady h g s d z p (now e) «e_in» under (f .row) (f .carried) (f .count) (k .row) (k .carried) (k .unit) (k .count) (now w) next ⌝ }
-    ensures { λ _. ⌜ RemainderDone h g s d p (now (e .entry)) «e_in» under (f .row) (f .carried) (f .count) (k .row) (k .carried) (k .unit) (k .count) (now (w .entry)) (now (w .exit)) next ⌝ }
+    requires { ⌜ RemainderReady h g s d z p (now e) «e_in» under f k (now w) next ⌝ }
+    ensures { λ _. ⌜ RemainderDone h g s d p (now (e .entry)) «e_in» under f k (now (w .entry)) (now (w .exit)) next ⌝ }
 {
     let n = k.count - 1;
     let lows = g + 2 - f.count;
@@ -183,8 +183,8 @@ pub fn close(
     w: &mut [i64],
     next: usize,
 ) -> Ended
-    requires { ⌜ CloseReady h g s d z p (now e) «e_in» under (f .row) (f .unit) (f .count) (k .carried) (k .unit) (k .count) (now w) next ⌝ }
-    ensures { λ r. ⌜ CloseDone h g d p (now (e .entry)) «e_in» under (f .row) (f .unit) (f .count) (k .carried) (k .unit) (k .count) (now (w .entry)) (now (w .exit)) next r ⌝ }
+    requires { ⌜ CloseReady h g s d z p (now e) «e_in» under f k (now w) next ⌝ }
+    ensures { λ r. ⌜ CloseDone h g d p (now (e .entry)) «e_in» under f k (now (w .entry)) (now (w .exit)) next r ⌝ }
 {
     if k.count == 0 {
         scale_row(h, f.count, d, z, p, e, e_in, under, f.unit, w, f.row, next);
@@ -212,8 +212,8 @@ pub fn passes(
     w: &mut [i64],
     next: usize,
 ) -> Ended
-    requires { ⌜ Underway h g s d z p (now e) «e_in» under (first .row) (first .carried) (first .unit) (first .count) (second .row) (second .carried) (second .unit) (second .count) (now w) next ⌝ }
-    ensures { λ r. ⌜ PassesDone h g s d z p (now (e .entry)) «e_in» under (first .row) (first .carried) (first .unit) (first .count) (second .row) (second .carried) (second .unit) (second .count) (now (w .entry)) (now (w .exit)) next r ⌝ }
+    requires { ⌜ Underway h g s d z p (now e) «e_in» under first second (now w) next ⌝ }
+    ensures { λ r. ⌜ PassesDone h g s d z p (now (e .entry)) «e_in» under first second (now (w .entry)) (now (w .exit)) next r ⌝ }
 {
     let mut f = first;
     let mut k = second;

@@ -25,7 +25,8 @@ same-length c = c .before .before .finish .ensures .frame .long ∙ c .before .b
 
 returns : tie.Need-returns
 returns c =
-    close-factor (c .before .before .before .before .before .before .before .if1 .taken) (c .before .before .before .before .before .scale-row .ensures)
+    let s = c .before .before .before .before .before .before .before .before .before in
+    close-factor (s .args .f) (s .args .k) (c .before .before .before .before .before .before .before .if1 .taken) (c .before .before .before .before .before .scale-row .ensures)
     (c .before .before .finish .ensures)
 
 scale-row-requires-2 : tie.Need-scale-row-requires-2
@@ -46,7 +47,8 @@ same-length-2 c = c .before .before .finish2 .ensures .frame .long ∙ c .before
 
 returns-2 : tie.Need-returns-2
 returns-2 c =
-    close-inverse (c .before .before .before .before .before .before .before .if1 .left) (c .before .before .before .before .before .scale-row2 .ensures)
+    let s = c .before .before .before .before .before .before .before .before .before in
+    close-inverse (s .args .f) (s .args .k) (c .before .before .before .before .before .before .before .if1 .left) (c .before .before .before .before .before .scale-row2 .ensures)
     (c .before .before .finish2 .ensures)
 
 pub close-spec : {M : Type 1} → statement M

@@ -27,14 +27,15 @@ sub-lose-product c = omega (arith, c .before .before .before .before .before .be
 lose-product-requires : tie.Need-lose-product-requires
 lose-product-requires c κs =
     let s = c .before .before .before .before .before .before .before .before in
-    remainder-loses (c .before .before .before .before .divide-row .ensures) (c .before .before .part-at .ensures) (s .pre)
+    remainder-loses (s .args .f) (s .args .k) (c .before .before .before .before .divide-row .ensures) (c .before .before .part-at .ensures) (s .pre)
 
 same-length : tie.Need-same-length
 same-length c = c .before .lose-product .ensures .frame .long ∙ c .before .before .before .before .before .before .divide-row .ensures .frame .long
 
 returns : tie.Need-returns
 returns c =
-    remainder-done (c .before .before .before .before .before .before .divide-row .ensures) (c .before .before .before .before .part-at .ensures)
+    let s = c .before .before .before .before .before .before .before .before .before .before in
+    remainder-done (s .args .f) (s .args .k) (c .before .before .before .before .before .before .divide-row .ensures) (c .before .before .before .before .part-at .ensures)
     (c .before .lose-product .ensures)
 
 pub remainder-spec : {M : Type 1} → statement M

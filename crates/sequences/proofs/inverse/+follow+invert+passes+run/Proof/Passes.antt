@@ -17,8 +17,7 @@ cs t = (remainder-reads.Asked, remainder-reads.Learnt, follow-below t, follow.Po
 
 abbrev Inv-loop : passes-lts.InvT-loop
 Inv-loop h g s d z p e e-in under w₀ next f₀ k₀ left₀ w f k left =
-    Passing h g s d z p e e-in under (f₀ .row) (f₀ .carried) (f₀ .unit) (f₀ .count) (k₀ .row) (k₀ .carried) (k₀ .unit) (k₀ .count) w₀ next
-    (f .row) (f .carried) (f .unit) (f .count) (k .row) (k .carried) (k .unit) (k .count) left w
+    Passing h g s d z p e e-in under f₀ k₀ w₀ next f k left w
 
 abbrev μ-loop : passes-lts.MeasureT-loop
 μ-loop h g s d z p e e-in under w₀ next f₀ k₀ left₀ w f k left = k .count
