@@ -7,7 +7,7 @@
 -- turns-shows, turns-over == a factor is shown; number 11 is not met
 -- turns-ones, turns-one  == the second is a constant: what writing 1 asks for, and leaves
 -- turns-monic, turns-end == what making the last one monic asks for, and leaves;  turns-long == the store is as long as before
--- Turning                == what holds wherever the loop's test is reached;  turning-fits, turning-start, turning-left, turning-next, turning-shows, turning-one, turning-end
+-- Turning                == what holds wherever the loop's test is reached;  turning-fits, turning-start, turning-left, turning-next, turning-shows
 use Prim.Native.Nat.{ℕ, zero, suc, _+_, _-_, _*_, _^_, _<_, _≤_, max}
 use native.Mathlib.Nat.{lt-irrefl, mul-comm, mul-le-mul-right}
 use native.Mathlib.Omega.{arith}
@@ -326,12 +326,6 @@ module _ {i : ℕ} {d z : List ℕ} {p : ℕ} {e : List ℤ} {e-in : Bool} {ea f
 
     pub turning-shows : (l at : ℕ) → c ≡ Shows l at → TurnsDone i d p e e-in ea fr₀ fu₀ m₀ gr₀ gu₀ n₀ w₀ v top (Divides l at)
     turning-shows l at ec = s .after v (Divides l at) (turns-shows (s .ready) some c y l at ec)
-
-  pub turning-one : n ≡ 1 → {v : List ℤ} → Put gr (oneWords d i) w v → TurnsDone i d p e e-in ea fr₀ fu₀ m₀ gr₀ gu₀ n₀ w₀ v top (Greatest gr 1)
-  turning-one single {v} put = s .after v (Greatest gr 1) (turns-one (s .ready) single put)
-
-  pub turning-end : n ≡ 0 → {v : List ℤ} (o : Found) → MonicDone i d p e e-in ea fr fu m w v top o → TurnsDone i d p e e-in ea fr₀ fu₀ m₀ gr₀ gu₀ n₀ w₀ v top o
-  turning-end none {v} o y = s .after v o (turns-end (s .ready) none o y)
 
 -- the store is as long as before
 pub turns-long : {i : ℕ} {d : List ℕ} {p : ℕ} {e : List ℤ} {e-in : Bool} {ea fr fu m gr gu n : ℕ} {w v : List ℤ} {top : ℕ} {o : Found}

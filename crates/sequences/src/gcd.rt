@@ -1,7 +1,7 @@
 // GCD of two polynomials in the store: both leading coefficients are inverted, the first one's first; then the remainders are taken in turn, the row of the
 // dividend becoming that of the remainder. A constant ends it, and the GCD is 1; else the last polynomial that is not zero is made monic.
 ghost use mathlib.Core.Path.{_≡_};
-ghost use Prim.Native.Nat.{max};
+ghost use Prim.Native.Nat.{_≤_, max};
 ghost use Rattle.sequences.specs.Gcds.{LeadReady, LeadDone, MonicReady, MonicDone, TurnReady, TurnDone, TurnsReady, TurnsDone, GcdReady, GcdDone};
 use super::inverse::follow;
 use super::inverse::invert;
@@ -114,6 +114,30 @@ pub fn turn(
     follow(i, d, z, p, e, e_in, ea, f.row, g.count - 1, f.unit, w, top)
 }
 
+// The end of the sequence: 1 where g is a constant, by which every remainder is zero; where g is zero, f made monic.
+pub fn end_turns(
+    i: usize,
+    d: [usize; 4],
+    z: [usize; 5],
+    p: u64,
+    e: &[i64],
+    e_in: bool,
+    ea: usize,
+    f: Led,
+    g: Led,
+    w: &mut [i64],
+    top: usize,
+) -> Found
+    requires { ⌜ (g .count ≤ 1) × TurnsReady i d z p (now e) «e_in» ea (f .row) (f .unit) (f .count) (g .row) (g .unit) (g .count) (now w) top ⌝ }
+    ensures { λ r. ⌜ TurnsDone i d p (now (e .entry)) «e_in» ea (f .row) (f .unit) (f .count) (g .row) (g .unit) (g .count) (now (w .entry)) (now (w .exit)) top r ⌝ }
+{
+    if g.count == 1 {
+        one(i, d, z, w, g.row);
+        return Found::Greatest(g.row, 1);
+    }
+    monic(i, d, z, p, e, e_in, ea, f, w, top)
+}
+
 // The sequence from two polynomials, the inverses of whose leading coefficients stand; the second may be zero.
 pub fn turns(
     i: usize,
@@ -158,12 +182,7 @@ pub fn turns(
             }
         }
     }
-    if g.count == 1 {
-        // the remainder by a constant is zero
-        one(i, d, z, w, g.row);
-        return Found::Greatest(g.row, 1);
-    }
-    monic(i, d, z, p, e, e_in, ea, f, w, top)
+    end_turns(i, d, z, p, e, e_in, ea, f, g, w, top)
 }
 
 // The larger of two numbers.

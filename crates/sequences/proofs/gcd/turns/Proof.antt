@@ -1,8 +1,8 @@
 use borrow.Author.Needs.{needs}
 use native.Mathlib.Omega.{arith}
 use native.Mathlib.Nat.{lt-irrefl}
-use Rattle.sequences.proofs.GcdLaws.{turns-asks, turns-fewer, turns-over, turns-ones, turns-monic, turns-long}
-use Rattle.sequences.proofs.GcdLaws.{Turning, turning-fits, turning-start, turning-left, turning-next, turning-shows, turning-one, turning-end}
+use Rattle.sequences.proofs.GcdLaws.{turns-asks, turns-fewer, turns-over, turns-long}
+use Rattle.sequences.proofs.GcdLaws.{Turning, turning-fits, turning-start, turning-left, turning-next, turning-shows}
 use Rattle.sequences.proofs.gcd.turns.Statement.{statement}
 use Rattle.sequences.proofs.gcd.turns.Tie as tie
 
@@ -85,39 +85,20 @@ returns-3 c =
     let turn = c .before .before .before .turn in
     absurd (turns-over (loop .inv .ready) (omega (arith, if1 .taken)) (turn .result) (turn .ensures) (c .enum-told .given .1))
 
-one-requires : tie.Need-one-requires Inv-loop μ-loop
-one-requires c κs = turns-ones (c .before .before .before .before .before .loop .inv .ready) (c .before .if3 .taken)
+end-turns-requires : tie.Need-end-turns-requires Inv-loop μ-loop
+end-turns-requires c κs = (omega (arith, c .before .if1 .left), c .before .before .before .loop .inv .ready)
 
 same-length-4 : tie.Need-same-length-4 Inv-loop μ-loop
 same-length-4 c =
-    let loop = c .before .before .before .before .before .before .before .loop in
-    let if3 = c .before .before .before .if3 in
-    turns-long (turning-one (loop .inv) (if3 .taken) (c .before .one .ensures))
+    let loop = c .before .before .before .before .before .loop in
+    let ended = c .before .end-turns in
+    turns-long (loop .inv .after _ (ended .result) (ended .ensures))
 
 returns-4 : tie.Need-returns-4 Inv-loop μ-loop
 returns-4 c =
-    let loop = c .before .before .before .before .before .before .before .loop in
-    let if3 = c .before .before .before .if3 in
-    turning-one (loop .inv) (if3 .taken) (c .before .one .ensures)
-
-monic-requires : tie.Need-monic-requires Inv-loop μ-loop
-monic-requires c κs = turns-monic (c .before .before .before .before .before .loop .inv .ready) (omega (arith, c .before .before .before .if1 .left, c .before .if3 .left))
-
-same-length-5 : tie.Need-same-length-5 Inv-loop μ-loop
-same-length-5 c =
-    let loop = c .before .before .before .before .before .before .before .loop in
-    let if1 = c .before .before .before .before .before .if1 in
-    let if3 = c .before .before .before .if3 in
-    let monic = c .before .monic in
-    turns-long (turning-end (loop .inv) (omega (arith, if1 .left, if3 .left)) (monic .result) (monic .ensures))
-
-returns-5 : tie.Need-returns-5 Inv-loop μ-loop
-returns-5 c =
-    let loop = c .before .before .before .before .before .before .before .loop in
-    let if1 = c .before .before .before .before .before .if1 in
-    let if3 = c .before .before .before .if3 in
-    let monic = c .before .monic in
-    turning-end (loop .inv) (omega (arith, if1 .left, if3 .left)) (monic .result) (monic .ensures)
+    let loop = c .before .before .before .before .before .loop in
+    let ended = c .before .end-turns in
+    loop .inv .after _ (ended .result) (ended .ensures)
 
 pub turns-spec : {M : Type 1} → statement M
 turns-spec =
@@ -141,9 +122,6 @@ turns-spec =
     enum-told
     same-length-3
     returns-3
-    one-requires
+    end-turns-requires
     same-length-4
-    returns-4
-    monic-requires
-    same-length-5
-    returns-5)
+    returns-4)
