@@ -1,7 +1,6 @@
 -- Laws of the beginning of a GCD: the leading coefficients are inverted.
 --
 -- stripped-of, shape-of     == n coefficients of which the last is not zero, as a shape;  ledOf, whole-of == as a polynomial of the sequence
--- Inverted                  == the inverse of the last coefficient, if there is one, is given and stands
 -- led-of, made-of           == such a polynomial stands as one of the sequence; it is made monic by the inverse
 -- made-none, made-shown     == zero; a factor shown
 -- Held                      == the tower and two polynomials stand;  held-swap == the other way round
@@ -37,7 +36,7 @@ use Rattle.euclid.specs.Towers.{Shown, level-of, inv, level, good}
 use Rattle.sequences.specs.declared.Outcome.{Outcome}
 use Rattle.sequences.specs.declared.Outcome.the-variants.{Done, Factor, Long}
 use Rattle.sequences.specs.Outcomes.{Came, FactorStands}
-use Rattle.sequences.specs.Gcds.{Sited, Upwards, Polynomial, LeadReady, LeadDone, LedStands}
+use Rattle.sequences.specs.Gcds.{Sited, Upwards, Polynomial, Inverted, LeadReady, LeadDone, LedStands}
 use Rattle.sequences.specs.Passes.{Clear}
 use Rattle.sequences.proofs.PlaceLaws.{clear-swap, worked-apart, stands-same, elements-same}
 use Rattle.sequences.proofs.GcdPlaces.{sited-less, up-worked, tower-worked}
@@ -78,10 +77,6 @@ module _ (p : ℕ) (p-pos : 0 < p) (d : List ℕ) (i : ℕ) (t : Tower p d i) (n
 
     pub made-shown : (x : Shown p d i) → inv p p-pos d i t (a (n - 1)) ≡ shown x → make (level p p-pos d i t) (nothing (El p d i)) n (trunc n a) tt ≡ shown x
     made-shown x h = make-shown (level p p-pos d i t) (nothing (El p d i)) n (trunc n a) tt (n - 1) _ _ shape-of x h
-
--- the inverse of the last coefficient
-pub record Inverted (p : ℕ) (p-pos : 0 < p) (d : List ℕ) (i : ℕ) (t : Tower p d i) (n : ℕ) (a : ℕ → El p d i) (w : List ℤ) (unit : ℕ) : Type 0 where
-  pub given : 0 < n → (u : El p d i) × (inv p p-pos d i t (a (n - 1)) ≡ done u) × Stands p d i u w unit
 
 pub led-of : {p : ℕ} {p-pos : 0 < p} {d : List ℕ} {i : ℕ} {t : Tower p d i} {n : ℕ} {a : ℕ → El p d i} {w : List ℤ} {row unit : ℕ} (some : 0 < n)
     → Polynomial p p-pos d i n a w row → (v : Inverted p p-pos d i t n a w unit) → LedStands p p-pos d i t (ledOf p p-pos d i t n a (v .given some .0)) row unit n w

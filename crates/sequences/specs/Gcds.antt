@@ -5,6 +5,7 @@
 -- Upwards              == only words from the lowest of their places up to the end of that room have changed
 -- Finds                == what the answer comes to
 -- GcdReady, GcdDone    == the GCD of two polynomials
+-- Inverted, GcdLedReady, GcdLedDone == the same where the inverse of the first one's leading coefficient stands
 -- LeadReady, LeadDone  == the inverse of a leading coefficient, where there is one
 -- MonicReady, MonicDone, TurnReady, TurnDone == a polynomial made monic, where it is not zero; one remainder
 -- LedStands            == a polynomial of the sequence stands, with the inverse of its leading coefficient
@@ -31,7 +32,7 @@ use Rattle.products.specs.Product.{TowerStands, Elements, Inside, Outside}
 use Rattle.euclid.specs.Answer.{Answer, done, shown, long, map}
 use Rattle.euclid.specs.Gcd.{Made, made, madeCount, madeCoefficients, gcd, nothing, wrap}
 use Rattle.euclid.specs.Lazy.{Led, whole, UnitLed, lazy}
-use Rattle.euclid.specs.Towers.{Shown, level-of, level}
+use Rattle.euclid.specs.Towers.{Shown, level-of, inv, level}
 use Rattle.sequences.specs.declared.Found.{Found}
 use Rattle.sequences.specs.declared.Found.the-variants.{Greatest, Divides, Never}
 use Rattle.sequences.specs.declared.Outcome.{Outcome}
@@ -101,6 +102,21 @@ pub record GcdDone (i : ℕ) (d : List ℕ) (p : ℕ) (e : List ℤ) (e-in : Boo
   pub frame : Upwards i d f-row f-unit g-row g-unit w w′ top
   pub done : (p-pos : 0 < p) (t : Tower p d i) (a b : ℕ → El p d i) → TowerStands p p-pos d i t (pick e-in w e) ea
       → Polynomial p p-pos d i m a w f-row → Polynomial p p-pos d i n b w g-row
+      → Finds p p-pos d i t (gcd (level p p-pos d i t) m (trunc m a) n (trunc n b)) r w′ top
+
+-- ---- the GCD where the inverse of f's leading coefficient is known
+-- if there is a last coefficient, its inverse is given and stands
+pub record Inverted (p : ℕ) (p-pos : 0 < p) (d : List ℕ) (i : ℕ) (t : Tower p d i) (n : ℕ) (a : ℕ → El p d i) (w : List ℤ) (unit : ℕ) : Type 0 where
+  pub given : 0 < n → (u : El p d i) × (inv p p-pos d i t (a (n - 1)) ≡ done u) × Stands p d i u w unit
+
+pub record GcdLedReady (i : ℕ) (d z : List ℕ) (p : ℕ) (e : List ℤ) (e-in : Bool) (ea f-row f-unit m g-row g-unit n : ℕ) (w : List ℤ) (top : ℕ) : Type 0 where
+  pub ready : GcdReady i d z p e e-in ea f-row f-unit m g-row g-unit n w top
+  pub inverted : Inverted p (ready .p-pos) d i (ready .t) m (ready .a) w f-unit
+
+pub record GcdLedDone (i : ℕ) (d : List ℕ) (p : ℕ) (e : List ℤ) (e-in : Bool) (ea f-row f-unit m g-row g-unit n : ℕ) (w w′ : List ℤ) (top : ℕ) (r : Found) : Type 0 where
+  pub frame : Upwards i d f-row f-unit g-row g-unit w w′ top
+  pub done : (p-pos : 0 < p) (t : Tower p d i) (a b : ℕ → El p d i) → TowerStands p p-pos d i t (pick e-in w e) ea
+      → Polynomial p p-pos d i m a w f-row → Polynomial p p-pos d i n b w g-row → Inverted p p-pos d i t m a w f-unit
       → Finds p p-pos d i t (gcd (level p p-pos d i t) m (trunc m a) n (trunc n b)) r w′ top
 
 -- ---- the steps, as they ask for what they call

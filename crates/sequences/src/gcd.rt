@@ -2,7 +2,7 @@
 // dividend becoming that of the remainder. A constant ends it, and the GCD is 1; else the last polynomial that is not zero is made monic.
 ghost use mathlib.Core.Path.{_≡_};
 ghost use Prim.Native.Nat.{_≤_, max};
-ghost use Rattle.sequences.specs.Gcds.{LeadReady, LeadDone, MonicReady, MonicDone, TurnReady, TurnDone, TurnsReady, TurnsDone, GcdReady, GcdDone};
+ghost use Rattle.sequences.specs.Gcds.{LeadReady, LeadDone, MonicReady, MonicDone, TurnReady, TurnDone, TurnsReady, TurnsDone, GcdLedReady, GcdLedDone, GcdReady, GcdDone};
 use super::inverse::follow;
 use super::inverse::invert;
 use super::rows::divide_row;
@@ -195,6 +195,38 @@ pub fn larger(m: usize, n: usize) -> usize
     m
 }
 
+// The GCD of f and g where the inverse of f's leading coefficient stands.
+pub fn gcd_led(
+    i: usize,
+    d: [usize; 4],
+    z: [usize; 5],
+    p: u64,
+    e: &[i64],
+    e_in: bool,
+    ea: usize,
+    f: Led,
+    g: Led,
+    w: &mut [i64],
+    top: usize,
+) -> Found
+    requires { ⌜ GcdLedReady i d z p (now e) «e_in» ea (f .row) (f .unit) (f .count) (g .row) (g .unit) (g .count) (now w) top ⌝ }
+    ensures { λ r. ⌜ GcdLedDone i d p (now (e .entry)) «e_in» ea (f .row) (f .unit) (f .count) (g .row) (g .unit) (g .count) (now (w .entry)) (now (w .exit)) top r ⌝ }
+{
+    match lead(i, d, z, p, e, e_in, ea, g, w, top) {
+        Outcome::Done => {}
+        Outcome::Factor(level) => {
+            return Found::Divides(level, g.unit);
+        }
+        Outcome::Long => {
+            return Found::Never;
+        }
+    }
+    if f.count == 0 {
+        return monic(i, d, z, p, e, e_in, ea, g, w, top);
+    }
+    turns(i, d, z, p, e, e_in, ea, f, g, w, top)
+}
+
 // The GCD of f and g: its coefficients stand where the result says.
 pub fn gcd(
     i: usize,
@@ -213,25 +245,8 @@ pub fn gcd(
     ensures { λ r. ⌜ GcdDone i d p (now (e .entry)) «e_in» ea (f .row) (f .unit) (f .count) (g .row) (g .unit) (g .count) (now (w .entry)) (now (w .exit)) top r ⌝ }
 {
     match lead(i, d, z, p, e, e_in, ea, f, w, top) {
-        Outcome::Done => {}
-        Outcome::Factor(level) => {
-            return Found::Divides(level, f.unit);
-        }
-        Outcome::Long => {
-            return Found::Never;
-        }
+        Outcome::Done => gcd_led(i, d, z, p, e, e_in, ea, f, g, w, top),
+        Outcome::Factor(level) => Found::Divides(level, f.unit),
+        Outcome::Long => Found::Never,
     }
-    match lead(i, d, z, p, e, e_in, ea, g, w, top) {
-        Outcome::Done => {}
-        Outcome::Factor(level) => {
-            return Found::Divides(level, g.unit);
-        }
-        Outcome::Long => {
-            return Found::Never;
-        }
-    }
-    if f.count == 0 {
-        return monic(i, d, z, p, e, e_in, ea, g, w, top);
-    }
-    turns(i, d, z, p, e, e_in, ea, f, g, w, top)
 }
