@@ -37,6 +37,7 @@ use Rattle.sequences.specs.Rows.{Between, ScaleRowReady, ScaleRowDone, L
 use Rattle.sequences.specs.Starts.{FinishReady, FinishDone}
 use Rattle.sequences.specs.Outcomes.{RunReady, RunDone}
 
+-- ---- the numbers
 abbrev pub underOf : List ℕ → ℕ → ℕ → ℕ
 underOf d h ea = ea + modulusSize d h
 
@@ -44,6 +45,7 @@ abbrev pub nextOf : List ℕ → ℕ → ℕ → ℕ
 nextOf d h top = top + 5 * ((degree d h + 1) * size d h + 1)
 
 -- ---- places
+-- n words from a on and m from b on have none in common
 pub record Clear (a n b m : ℕ) : Type 0 where
   pub apart : Between a n b m
 
@@ -186,11 +188,13 @@ pub record Settled (h n g : ℕ) (d : List ℕ) (p : ℕ) (e : List ℤ) (e-in :
   pub scaled : ScaleRowDone h n d p e e-in under unit w v row next
   pub finished : FinishDone h n g d v w′ row
 
+-- where k is zero, f is made monic; else what k carries is multiplied by the inverse of k's leading coefficient
 pub record CloseReady (h g s : ℕ) (d z : List ℕ) (p : ℕ) (e : List ℤ) (e-in : Bool) (under : ℕ) (f k : Place) (w : List ℤ) (next : ℕ) : Type 0 where
   pub low : h ≤ 4
   pub factor : k .count ≡ 0 → Settling h (f .count) g s d z p e e-in under (f .unit) w (f .row) next
   pub inverse : ¬ (k .count ≡ 0) → Settling h g g s d z p e e-in under (k .unit) w (k .carried) next
 
+-- the answer is told by its first word's place
 pub record CloseDone (h g : ℕ) (d : List ℕ) (p : ℕ) (e : List ℤ) (e-in : Bool) (under : ℕ) (f k : Place) (w w′ : List ℤ) (next : ℕ) (r : Ended) : Type 0 where
   pub factor : k .count ≡ 0 → (r ≡ Divisor (suc h) (f .row - 1)) × Settled h (f .count) g d p e e-in under (f .unit) w w′ (f .row) next
   pub inverse : ¬ (k .count ≡ 0) → (r ≡ Inverse (k .carried - 1)) × Settled h g g d p e e-in under (k .unit) w w′ (k .carried) next

@@ -54,19 +54,15 @@ loop-again c =
 enum-known-level : tie.Need-enum-known-level Inv-loop μ-loop
 enum-known-level c = search needs
 
-same-length-2 : tie.Need-same-length-2 Inv-loop μ-loop
-same-length-2 c =
-    let loop = c .before .before .before .before .before .before .before .before .before .loop in
-    let if1 = c .before .before .before .before .before .before .before .if1 in
-    let turn = c .before .before .before .before .turn in
-    turns-long (turning-shows (loop .inv) (omega (arith, if1 .taken)) (turn .result) (turn .ensures) _ _ (c .before .level .given .1))
-
 returns-2 : tie.Need-returns-2 Inv-loop μ-loop
 returns-2 c =
     let loop = c .before .before .before .before .before .before .before .before .before .loop in
     let if1 = c .before .before .before .before .before .before .before .if1 in
     let turn = c .before .before .before .before .turn in
     turning-shows (loop .inv) (omega (arith, if1 .taken)) (turn .result) (turn .ensures) _ _ (c .before .level .given .1)
+
+same-length-2 : tie.Need-same-length-2 Inv-loop μ-loop
+same-length-2 c = turns-long (returns-2 c)
 
 enum-told : tie.Need-enum-told Inv-loop μ-loop
 enum-told c = search needs
@@ -88,17 +84,14 @@ returns-3 c =
 end-turns-requires : tie.Need-end-turns-requires Inv-loop μ-loop
 end-turns-requires c κs = (omega (arith, c .before .if1 .left), c .before .before .before .loop .inv .ready)
 
-same-length-4 : tie.Need-same-length-4 Inv-loop μ-loop
-same-length-4 c =
-    let loop = c .before .before .before .before .before .loop in
-    let ended = c .before .end-turns in
-    turns-long (loop .inv .after _ (ended .result) (ended .ensures))
-
 returns-4 : tie.Need-returns-4 Inv-loop μ-loop
 returns-4 c =
     let loop = c .before .before .before .before .before .loop in
     let ended = c .before .end-turns in
     loop .inv .after _ (ended .result) (ended .ensures)
+
+same-length-4 : tie.Need-same-length-4 Inv-loop μ-loop
+same-length-4 c = turns-long (returns-4 c)
 
 pub turns-spec : {M : Type 1} → statement M
 turns-spec =

@@ -85,15 +85,6 @@ loop-again t c =
 enum-known-level : (t : ℕ) → passes-lts.Need-enum-known-level (cs t) (passes-at t) passes.Post Inv-loop μ-loop
 enum-known-level t c = search needs
 
-same-length-2 : (t : ℕ) → passes-lts.Need-same-length-2 (cs t) (passes-at t) passes.Post Inv-loop μ-loop
-same-length-2 t c =
-    let s = c .before .before .before .before .before .before .before .before .before .before .before .before .before .before in
-    let loop = c .before .before .before .before .before .before .before .before .before .before .before .before .before .loop in
-    let if1 = c .before .before .before .before .before .before .before .before .before .before .before .if1 in
-    let remainder = c .before .before .before .before .before .before .before .before .remainder in
-    let follow = c .before .before .before .before .follow in
-    passes-long (s .pre .1) (passing-shows (s .pre .1) (loop .inv) (if1 .taken) (remainder .ensures) (follow .result) (follow .ensures) _ _ (c .before .level .given .1))
-
 returns-2 : (t : ℕ) → passes-lts.Need-returns-2 (cs t) (passes-at t) passes.Post Inv-loop μ-loop
 returns-2 t c =
     let s = c .before .before .before .before .before .before .before .before .before .before .before .before .before .before in
@@ -102,6 +93,9 @@ returns-2 t c =
     let remainder = c .before .before .before .before .before .before .before .before .remainder in
     let follow = c .before .before .before .before .follow in
     passing-shows (s .pre .1) (loop .inv) (if1 .taken) (remainder .ensures) (follow .result) (follow .ensures) _ _ (c .before .level .given .1)
+
+same-length-2 : (t : ℕ) → passes-lts.Need-same-length-2 (cs t) (passes-at t) passes.Post Inv-loop μ-loop
+same-length-2 t c = passes-long (c .before .before .before .before .before .before .before .before .before .before .before .before .before .before .pre .1) (returns-2 t c)
 
 enum-told : (t : ℕ) → passes-lts.Need-enum-told (cs t) (passes-at t) passes.Post Inv-loop μ-loop
 enum-told t c = search needs
@@ -131,14 +125,6 @@ close-requires t c κs =
     let if1 = c .before .if1 in
     passing-closes (s .pre .1) (loop .inv) (omega (arith, if1 .left))
 
-same-length-4 : (t : ℕ) → passes-lts.Need-same-length-4 (cs t) (passes-at t) passes.Post Inv-loop μ-loop
-same-length-4 t c =
-    let s = c .before .before .before .before .before .before in
-    let loop = c .before .before .before .before .before .loop in
-    let if1 = c .before .before .before .if1 in
-    let close = c .before .close in
-    passes-long (s .pre .1) (passing-ends (s .pre .1) (loop .inv) (omega (arith, if1 .left)) (close .result) (close .ensures))
-
 returns-4 : (t : ℕ) → passes-lts.Need-returns-4 (cs t) (passes-at t) passes.Post Inv-loop μ-loop
 returns-4 t c =
     let s = c .before .before .before .before .before .before in
@@ -146,6 +132,9 @@ returns-4 t c =
     let if1 = c .before .before .before .if1 in
     let close = c .before .close in
     passing-ends (s .pre .1) (loop .inv) (omega (arith, if1 .left)) (close .result) (close .ensures)
+
+same-length-4 : (t : ℕ) → passes-lts.Need-same-length-4 (cs t) (passes-at t) passes.Post Inv-loop μ-loop
+same-length-4 t c = passes-long (c .before .before .before .before .before .before .pre .1) (returns-4 t c)
 
 pub passes-closed : {M : Type 1} (t : ℕ) → passes-lts.Closed (cs t) (passes-at t) passes.Post M
 passes-closed t =

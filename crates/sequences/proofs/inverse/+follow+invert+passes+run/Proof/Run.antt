@@ -165,28 +165,17 @@ passes-requires t c κs =
     let led-at2 = c .before .before .before .before .before .before .before .led-at2 in
     let part-at = c .before .before .before .before .before .before .part-at in
     let invert = c .before .before .before .before .invert in
-    let enum-told = c .before .enum-told in
-    (omega (arith, s .pre .0, s .pre .1 .0), run-underway (s .pre .1) sized (count-in .ensures) (begin .ensures) (led-at .ensures) (led-at2 .ensures) (part-at .ensures) (invert .result) (invert .ensures) (enum-told .given .1))
+    let enum-told = c .before .enum-told in (
+      omega (arith, s .pre .0, s .pre .1 .0),
+      run-underway (s .pre .1) sized (count-in .ensures) (begin .ensures) (led-at .ensures) (led-at2 .ensures) (part-at .ensures)
+          (invert .result) (invert .ensures) (enum-told .given .1),
+    )
 
 enum-known-level : (t : ℕ) → run-lts.Need-enum-known-level (cs t) (run-at t) run.Post
 enum-known-level t c = search needs
 
 enum-told-2 : (t : ℕ) → run-lts.Need-enum-told-2 (cs t) (run-at t) run.Post
 enum-told-2 t c = search needs
-
-same-length : (t : ℕ) → run-lts.Need-same-length (cs t) (run-at t) run.Post
-same-length t c =
-    let s = c .before .before .before .before .before .before .before .before .before .before .before .before .before .before .before .before .before .before .before in
-    let sized = sizes t (c .before .before .before .before .before .before .before .before .before .before .before .before .before .before .before .before) in
-    let count-in = c .before .before .before .before .before .before .before .before .before .before .before .before .before .before .count-in in
-    let begin = c .before .before .before .before .before .before .before .before .before .before .before .before .begin in
-    let led-at = c .before .before .before .before .before .before .before .before .before .before .led-at in
-    let led-at2 = c .before .before .before .before .before .before .before .before .before .led-at2 in
-    let part-at = c .before .before .before .before .before .before .before .before .part-at in
-    let invert = c .before .before .before .before .before .before .invert in
-    let enum-told = c .before .before .before .enum-told in
-    let passes = c .before .passes in
-    (run-passes (s .pre .1) sized (count-in .ensures) (begin .ensures) (led-at .ensures) (led-at2 .ensures) (part-at .ensures) (invert .result) (invert .ensures) _ (enum-told .given .1) (passes .ensures)) .frame .long
 
 returns : (t : ℕ) → run-lts.Need-returns (cs t) (run-at t) run.Post
 returns t c =
@@ -200,7 +189,11 @@ returns t c =
     let invert = c .before .before .before .before .before .before .invert in
     let enum-told = c .before .before .before .enum-told in
     let passes = c .before .passes in
-    run-passes (s .pre .1) sized (count-in .ensures) (begin .ensures) (led-at .ensures) (led-at2 .ensures) (part-at .ensures) (invert .result) (invert .ensures) _ (enum-told .given .1) (passes .ensures)
+    run-passes (s .pre .1) sized (count-in .ensures) (begin .ensures) (led-at .ensures) (led-at2 .ensures) (part-at .ensures)
+    (invert .result) (invert .ensures) _ (enum-told .given .1) (passes .ensures)
+
+same-length : (t : ℕ) → run-lts.Need-same-length (cs t) (run-at t) run.Post
+same-length t c = returns t c .frame .long
 
 same-length-2 : (t : ℕ) → run-lts.Need-same-length-2 (cs t) (run-at t) run.Post
 same-length-2 t c = search needs
@@ -216,7 +209,8 @@ returns-2 t c =
     let part-at = c .before .before .before .before .before .before .part-at in
     let invert = c .before .before .before .before .invert in
     let level = c .before .level in
-    run-shows (s .pre .1) sized (count-in .ensures) (begin .ensures) (led-at .ensures) (led-at2 .ensures) (part-at .ensures) (invert .result) (invert .ensures) _ (level .given .1)
+    run-shows (s .pre .1) sized (count-in .ensures) (begin .ensures) (led-at .ensures) (led-at2 .ensures) (part-at .ensures)
+    (invert .result) (invert .ensures) _ (level .given .1)
 
 same-length-3 : (t : ℕ) → run-lts.Need-same-length-3 (cs t) (run-at t) run.Post
 same-length-3 t c = search needs
@@ -231,7 +225,8 @@ returns-3 t c =
     let led-at2 = c .before .before .before .before .before .before .led-at2 in
     let part-at = c .before .before .before .before .before .part-at in
     let invert = c .before .before .before .invert in
-    absurd (run-over (s .pre .1) sized (count-in .ensures) (begin .ensures) (led-at .ensures) (led-at2 .ensures) (part-at .ensures) (invert .result) (invert .ensures) (c .enum-told2 .given .1))
+    absurd (run-over (s .pre .1) sized (count-in .ensures) (begin .ensures) (led-at .ensures) (led-at2 .ensures) (part-at .ensures)
+    (invert .result) (invert .ensures) (c .enum-told2 .given .1))
 
 pub run-closed : {M : Type 1} (t : ℕ) → run-lts.Closed (cs t) (run-at t) run.Post M
 run-closed t =
