@@ -12,6 +12,7 @@ pub mod Answers
 pub mod Shape
 pub mod Fractions
 pub mod Promises
+pub mod Parts
 pub mod Meaning
 pub mod SlotMeaning
 pub mod FractionMeaning
