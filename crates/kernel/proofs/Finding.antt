@@ -5,10 +5,12 @@
 -- gcd-shape, slots-some, few-counts == with none N and the degrees are in range, the slots have words, and the degree words count few
 -- g-length, f-length     == the lengths of the slots and of the factor buffer
 -- A, by, given           == the sequence's answer, and the call by it
--- a-inside, b-inside     == the words that are copied into the work store;  find-ready == then the sequence may run;  Sought, sought == what it came to
--- gcd-plain              == the same of the numbers before they went through a call
+-- few-words, a-inside, b-inside == the words that are copied into the work store;  find-ready == then the sequence may run
+-- sought-done            == what it leaves;  Sought, sought == what it came to
+-- sought-plain, gcd-plain == the same of the numbers before they went through a call
 use Rattle.kernel.proofs.Order.{zero-then}
 use Rattle.kernel.proofs.Seeking.{gcd-number-is, needed-found}
+use Rattle.kernel.proofs.Told.{handed-back}
 use Rattle.kernel.proofs.Shapes.{size-found, tower-zero}
 use Rattle.kernel.proofs.Slotting.{cleared-by, allowed-long, count-low, count-words, held-length, held-stands, held-modulus, held-positive}
 use Rattle.kernel.specs.Answered.{towerIn, levelOf}
@@ -18,6 +20,7 @@ use Rattle.kernel.specs.GcdAnswers.{GcdMeans, gcdAnswer, gcd-sequence}
 use Rattle.kernel.specs.GcdMeaning.{gcd-passed, gcd-refused as refused-words}
 use Rattle.kernel.specs.Gcds.{gcdNeeded, gcdNumber, GcdWords, gcdBy}
 use Rattle.kernel.specs.Meaning.{TowerHeld}
+use Rattle.kernel.specs.Parts.{SoughtDone}
 use Rattle.kernel.specs.Shape.{ShapeOf}
 use Rattle.kernel.specs.declared.Shape.{Shape}
 use Rattle.kernel.specs.Promises.{GcdGiven}
@@ -53,11 +56,11 @@ use mathlib.Core.Path.{_≡_, refl, sym, ap, _∙_, subst, subst₂, ap₂, subs
 use mathlib.Core.Bool.{false}
 use mathlib.Core.List.{List, [], _∷_}
 use mathlib.Core.Logic.{inl, inr}
-use Prim.Native.Nat.{ℕ, suc, _+_, _-_, _*_, _<_, _≤_}
+use Prim.Native.Nat.{ℕ, suc, _+_, _-_, _*_, _^_, _<_, _≤_}
 use native.Mathlib.Nat.{mul-le-mul-right}
 use native.Mathlib.Omega.{arith}
 use lib.IntN.{ℤ, pos}
-use lib.Dec.{T}
+use lib.Dec.{T, T-prop}
 use lib.ListN.{length}
 
 -- ---- elements that are copied
@@ -274,6 +277,14 @@ module _ (p n : ℤ) (e t a b g f v : List ℤ) (passed : gcdNumber p n e t a b 
     pub inside : top ≤ length w
     pub clears : (c ≤ length w) × ((v′ : List ℤ) → Put 0 (copies c (pos 0 ∷ [])) w v′ → v′ ≡ cleared (gcdNeeded n e a b) v)
 
+  -- few words of a and b are copied
+  pub few-words : (s : Shape) → ShapeOf n e s → (j k : ℕ) → j ≡ degreeCount a → k ≡ degreeCount b → (j * s .size ≤ 2 ^ 31) × (k * s .size ≤ 2 ^ 31)
+  few-words s is j k ej ek =
+      let size-of = size-found p n e s is (num p) refl in (
+        omega (arith, ap₂ _*_ ej size-of, count-words p n e a M long-a form-a (τ .range .shape .few)),
+        omega (arith, ap₂ _*_ ek size-of, count-words p n e b M long-b form-b (τ .range .shape .few)),
+      )
+
   -- `first` is the place behind the copy of a, and `unit` that of the two inverses
   module _ (s : Shape) (is : ShapeOf n e s) (q : ℕ) (eq : q ≡ num p) (j k : ℕ) (ej : j ≡ degreeCount a) (ek : k ≡ degreeCount b)
       (first : ℕ) (e-first : first ≡ 0 + 1 + j * s .size) (unit : ℕ) (e-unit : unit ≡ first + 1 - 1 + 1 + k * s .size) where
@@ -317,10 +328,9 @@ module _ (p n : ℤ) (e t a b g f v : List ℤ) (passed : gcdNumber p n e t a b 
             (ready-plain (first + 1) unit row-is unit-is v₁ v₂ copied-a copied-b (s .sizes)
             (subst (λ x. Sized x (s .sizes)) (is .degrees) (is .known .sized)) (omega (arith, is .levels, is .known .low))))
 
-        -- the sequence has run, and c work words are to be cleared
+        -- the sequence has run
         module _ (w : List ℤ) (o : Found)
-            (D : GcdDone (s .levels) (s .degrees) q t false 0 1 unit j (first + 1) (unit + s .size) k v₂ w (unit + 2 * s .size) o)
-            (i : ℕ) (ei : i ≡ inverseWork (s .degrees) (s .levels)) (c : ℕ) (ec : c ≡ j * s .size + 1 + (k * s .size + 1) + 2 * s .size + i) where
+            (D : GcdDone (s .levels) (s .degrees) q t false 0 1 unit j (first + 1) (unit + s .size) k v₂ w (unit + 2 * s .size) o) where
           done-plain : GcdDone (num n) d (num p) t false 0 1 unit (degreeCount a) (first + 1) (unit + S) (degreeCount b) v₂ w (unit + 2 * S) o
           done-plain =
               subst₃ (λ x y l. GcdDone (num n) d (num p) t false 0 1 unit x (first + 1) (unit + l) y v₂ w (unit + 2 * l) o) ej ek size-of
@@ -329,22 +339,37 @@ module _ (p n : ℤ) (e t a b g f v : List ℤ) (passed : gcdNumber p n e t a b 
           is-kept : Kept 0 (gcdNeeded n e a b) v w
           is-kept = work-kept (first + 1) unit row-is unit-is v₁ v₂ copied-a copied-b w o done-plain
 
-          pub is-found : Finds (num p) p-pos d (num n) θ A o w (unit + 2 * S)
-          is-found = found-plain (first + 1) unit row-is unit-is v₁ v₂ copied-a copied-b w o done-plain
+          pub sought-done : SoughtDone p n e t a b v w o
+          sought-done = record {
+            top = unit + 2 * S;
+            inside = omega (arith, fits, is-kept .long);
+            kept = is-kept;
+            modulus = M;
+            finds = found-plain (first + 1) unit row-is unit-is v₁ v₂ copied-a copied-b w o done-plain;
+          }
 
-          pub is-inside : unit + 2 * S ≤ length w
-          is-inside = omega (arith, fits, is-kept .long)
+  -- it has run, and c work words are to be cleared
+  module _ (s : Shape) (is : ShapeOf n e s) (w : List ℤ) (o : Found) (D : SoughtDone p n e t a b v w o)
+      (c : ℕ) (ec : c ≡ degreeCount a * s .size + 1 + (degreeCount b * s .size + 1) + 2 * s .size + inverseWork (s .degrees) (s .levels)) where
+    pub is-found : Finds (num p) p-pos d (num n) θ A o w (D .top)
+    is-found =
+        subst (λ m. Finds (num p) (p-positive p m) d (num n) (towerIn p n e t m) (gcdAnswer p n e t a b g f v m) o w (D .top))
+        (T-prop (pOk p) (D .modulus) M) (D .finds)
 
-          pub is-cleared : (c ≤ length w) × ((v′ : List ℤ) → Put 0 (copies c (pos 0 ∷ [])) w v′ → v′ ≡ cleared (gcdNeeded n e a b) v)
-          is-cleared =
-              let needs = needed-found p n e a b s is j k ej ek i ei c ec in
-              let more = held .more in (
-                omega (arith, needs, more, is-kept .long),
-                λ v′ put. cleared-by (gcdNeeded n e a b) c v w v′ (omega (arith, needs)) (omega (arith, needs, more)) is-kept put ∙ ap (λ x. cleared x v) needs,
-              )
+    pub is-cleared : (c ≤ length w) × ((v′ : List ℤ) → Put 0 (copies c (pos 0 ∷ [])) w v′ → v′ ≡ cleared (gcdNeeded n e a b) v)
+    is-cleared =
+        let needs = needed-found p n e a b s is c ec in
+        let more = held .more in (
+          omega (arith, needs, more, D .kept .long),
+          λ v′ put. cleared-by (gcdNeeded n e a b) c v w v′ (omega (arith, needs)) (omega (arith, needs, more)) (D .kept) put ∙ ap (λ x. cleared x v) needs,
+        )
 
-          abbrev pub sought : Sought
-          sought = record { s = s; is = is; w = w; o = o; top = unit + 2 * S; c = c; found = is-found; inside = is-inside; clears = is-cleared }
+    abbrev pub sought : Sought
+    sought = record { s = s; is = is; w = w; o = o; top = D .top; c = c; found = is-found; inside = D .inside; clears = is-cleared }
+
+pub sought-plain : {p n : ℤ} {e t a b v w : List ℤ} {o : Found} → SFits w64 p → SFits w64 n
+    → SoughtDone (toZ w64 (ofZ w64 p)) (toZ w64 (ofZ w64 n)) e t a b v w o → SoughtDone p n e t a b v w o
+sought-plain {p} {n} {e} {t} {a} {b} {v} {w} {o} fp fn h = handed-back (λ x y. SoughtDone x y e t a b v w o) fp fn h
 
 pub gcd-plain : {p n : ℤ} {e t a b g f v : List ℤ} {r : CallAnswer} {g′ f′ v′ : List ℤ} → SFits w64 p → SFits w64 n
     → GcdGiven (toZ w64 (ofZ w64 p)) (toZ w64 (ofZ w64 n)) e t a b g f v r g′ f′ v′ → GcdGiven p n e t a b g f v r g′ f′ v′

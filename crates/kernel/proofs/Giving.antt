@@ -1,9 +1,8 @@
 -- Laws of what a GCD gives, from what the sequence came to.
 --
--- work-room              == the words that are cleared
--- greatest-words, greatest-inside, greatest-few == a GCD: how many words it has, where they stand and go, and that they fit;  finish-ready == g's slot may be ended
--- greatest-given         == what the call gives then
--- divides-level, divides-room, divides-given == the same of a factor;  never-given == of too many remainders
+-- fits-greatest, words-greatest, finish-ready == a GCD's words may be copied out, they are few, and g's slot may be ended behind them
+-- copied-greatest, copied-divides, copied-never == what is copied out: a GCD, a factor, nothing
+-- found-ready, found-given == the answer's words may be copied out, and what the call gives then;  work-room == the words to be cleared
 use Rattle.kernel.proofs.Finding.{elements-copied, τ, M, held, A, given, g-length, f-length, Sought}
 use Rattle.kernel.proofs.Shapes.{size-found, level-size}
 use Rattle.kernel.proofs.Showing.{Shows, Gives, shows-level, shows-few, shows-buffer, finds-greatest, finds-divides, finds-never}
@@ -13,15 +12,18 @@ use Rattle.kernel.specs.Calls.{sizeOf, coefficientsOf}
 use Rattle.kernel.specs.GcdMeaning.{gcd-fits, made-below}
 use Rattle.kernel.specs.Gcds.{gcdNumber}
 use Rattle.kernel.specs.Meaning.{ones}
+use Rattle.kernel.specs.Parts.{GreatestFits, FoundReady, FoundGiven}
 use Rattle.kernel.specs.Promises.{GcdGiven}
 use Rattle.kernel.specs.Refusals.{factor}
 use Rattle.kernel.specs.Shape.{ShapeOf}
 use Rattle.kernel.specs.Slots.{topRing}
+use Rattle.kernel.specs.declared.Answer.{Answer as CallAnswer}
 use Rattle.kernel.specs.declared.Answer.the-variants.{Done, Factor, Refused}
 use Rattle.kernel.specs.declared.Shape.{Shape}
 use Rattle.euclid.specs.Answer.{Answer, done as done-with, shown, long}
 use Rattle.euclid.specs.Gcd.{Made, madeCoefficients}
 use Rattle.euclid.specs.Towers.{Shown}
+use Rattle.sequences.specs.declared.Found.{Found}
 use Rattle.sequences.specs.declared.Found.the-variants.{Greatest, Divides, Never}
 use Rattle.polynomials.specs.Slots.{FinishReady, Finished}
 use Rattle.products.specs.Product.{Elements}
@@ -33,7 +35,7 @@ use Rattle.tower.specs.Limits.{pOk, p-positive, degreesOf, slotCount}
 use Rattle.tower.specs.Stands.{Stands}
 use Rattle.tower.specs.Store.{Put}
 use Rattle.tower.specs.Writing.{size, write, slot, slot-long}
-use mathlib.Core.Path.{_≡_, refl, sym, ap, ap₂, _∙_, subst, subst₂}
+use mathlib.Core.Path.{_≡_, refl, sym, ap, ap₂, _∙_, subst, subst₂, subst₃}
 use mathlib.Core.List.{List, [], _∷_}
 use mathlib.Core.Logic.{_⊎_, inl, inr}
 use Prim.Native.Nat.{ℕ, _+_, _-_, _*_, _<_, _≤_}
@@ -42,6 +44,38 @@ use native.Mathlib.Omega.{arith}
 use lib.IntN.{ℤ, pos}
 use lib.Dec.{T}
 use lib.ListN.{length, getD}
+
+-- ---- the answer's words copied out, by what the sequence found
+module _ (o : Found) (s : Shape) (v g f : List ℤ) where
+  -- a GCD of k coefficients at the place `at`
+  module _ (at k : ℕ) (u : o ≡ Greatest at k) where
+    pub fits-greatest : FoundReady o s v g f → GreatestFits at k s v g
+    fits-greatest h = subst (λ x. FoundReady x s v g f) u h
+
+    module _ (h : FoundReady o s v g f) where
+      pub words-greatest : 1 + k * s .size ≤ length g
+      words-greatest = let F = fits-greatest h in omega (arith, mul-le-mul-right (s .size) (F .few), F .long)
+
+      module _ (many : ℕ) (em : many ≡ slotCount (s .size) (length g)) (g₁ : List ℤ) (put : Put 1 (seg at (k * s .size) v) g g₁) where
+        pub finish-ready : FinishReady (s .levels) many k (many - k) (s .degrees) (s .sizes) g₁
+        finish-ready =
+            let F = fits-greatest h in record {
+              low = F .known .low;
+              sized = F .known .sized;
+              fits = omega (arith, F .few, em);
+              inside = omega (arith, ap₂ _*_ em (sym (F .known .is-size)), F .long, put .kept .long);
+            }
+
+        pub copied-greatest : (g₂ : List ℤ) → Finished (s .levels) many k (many - k) (s .degrees) g₁ g₂ → FoundGiven o s v g f Done g₂ f
+        copied-greatest g₂ F =
+            subst (λ x. FoundGiven x s v g f Done g₂ f) (sym u)
+            (refl, record { copied = g₁; put = put; ended = subst (λ m. Finished (s .levels) m k (m - k) (s .degrees) g₁ g₂) em F }, refl)
+
+  pub copied-divides : (l at : ℕ) → o ≡ Divides l at → (k : ℕ) → k ≡ getD (s .sizes) l 0 → (f′ : List ℤ) → f′ ≡ factorBuffer f (seg at k v) → FoundGiven o s v g f (Factor l) g f′
+  copied-divides l at u k ek f′ ef = subst (λ x. FoundGiven x s v g f (Factor l) g f′) (sym u) (refl, refl, ef ∙ ap (λ j. factorBuffer f (seg at j v)) ek)
+
+  pub copied-never : o ≡ Never → FoundGiven o s v g f (Refused 11) g f
+  copied-never u = subst (λ x. FoundGiven x s v g f (Refused 11) g f) (sym u) (refl, refl, refl)
 
 -- ---- what the call gives
 module _ {p n : ℤ} {e t a b g f v : List ℤ} {passed : gcdNumber p n e t a b g f v ≡ 0} (R : Sought p n e t a b g f v passed) where
@@ -87,31 +121,17 @@ module _ {p n : ℤ} {e t a b g f v : List ℤ} {passed : gcdNumber p n e t a b 
     count-fits : l ≤ coefficientsOf n e g
     count-fits = omega (arith, gives .0 .count, gcd-fits p n e t a b g f v passed (gives .0 .m) (gives .0 .is))
 
-    g-words : 1 + l * S ≤ length g
-    g-words = omega (arith, mul-le-mul-right S count-fits, g-length p n e t a b g f v passed)
-
-    pub greatest-words : l * s .size ≤ 65536
-    greatest-words = omega (arith, ap (λ x. l * x) size-of, g-words, held p n e t a b g f v passed .slots .long .1 .1 .0 .short)
-
-    pub greatest-inside : (at + l * s .size ≤ length w) × (1 + l * s .size ≤ length g)
-    greatest-inside = (omega (arith, ap (λ x. l * x) size-of, gives .1, R .inside), omega (arith, ap (λ x. l * x) size-of, g-words))
+    greatest-inside : at + l * s .size ≤ length w
+    greatest-inside = omega (arith, ap (λ x. l * x) size-of, gives .1, R .inside)
 
     module _ (many : ℕ) (e-many : many ≡ slotCount (s .size) (length g)) where
       many-is : many ≡ coefficientsOf n e g
       many-is = e-many ∙ ap (λ x. slotCount x (length g)) size-of
 
-      pub greatest-few : l ≤ many
+      greatest-few : l ≤ many
       greatest-few = omega (arith, many-is, count-fits)
 
       module _ (g₁ : List ℤ) (put : Put 1 (seg at (l * s .size) w) g g₁) where
-        pub finish-ready : FinishReady (s .levels) many l (many - l) (s .degrees) (s .sizes) g₁
-        finish-ready = record {
-          low = is .known .low;
-          sized = is .known .sized;
-          fits = omega (arith, greatest-few);
-          inside = omega (arith, ap₂ _*_ many-is (sym (is .known .is-size) ∙ size-of), g-length p n e t a b g f v passed, put .kept .long);
-        }
-
         abbrev coefficients : ℕ → El (num p) d (num n)
         coefficients = madeCoefficients (topRing p n e t m) (gives .0 .m)
 
@@ -124,7 +144,7 @@ module _ {p n : ℤ} {e t a b g f v : List ℤ} {passed : gcdNumber p n e t a b 
             elements-copied (num p) d (num n) l coefficients w g g₁ at 1 (omega (arith, gives .1, R .inside))
             (λ i q. gives .0 .stands i (omega (arith, gives .0 .count))) (subst (λ x. Put 1 (seg at (l * x) w) g g₁) size-of put)
 
-        pub greatest-given : (g₂ : List ℤ) → Finished (s .levels) many l (many - l) (s .degrees) g₁ g₂ → (v′ : List ℤ) → Put 0 (copies (R .c) (pos 0 ∷ [])) w v′
+        greatest-given : (g₂ : List ℤ) → Finished (s .levels) many l (many - l) (s .degrees) g₁ g₂ → (v′ : List ℤ) → Put 0 (copies (R .c) (pos 0 ∷ [])) w v′
             → GcdGiven p n e t a b g f v Done g₂ f v′
         greatest-given g₂ F v′ put-v =
             given p n e t a b g f v passed (done-with (gives .0 .m)) (gives .0 .is) Done g₂ f v′ refl
@@ -161,14 +181,14 @@ module _ {p n : ℤ} {e t a b g f v : List ℤ} {passed : gcdNumber p n e t a b 
     shows : Shows (num p) p-pos d (num n) θ w X l at × (at + size d l ≤ R .top)
     shows = finds-divides (num p) p-pos d (num n) θ w (R .top) X (R .o) l at (R .found) u
 
-    pub divides-level : l < 5
+    divides-level : l < 5
     divides-level = omega (arith, shows-level (num p) p-pos d (num n) θ w l at (shows .0), is .levels, is .known .low)
 
     module _ (x : ℕ) (ex : x ≡ getD (s .sizes) l 0) where
       words-are : x ≡ size d l
       words-are = level-size p n e s is (num p) refl l (omega (arith, divides-level)) x ex
 
-      pub divides-room : (at + x ≤ length w) × (x ≤ length f)
+      divides-room : (at + x ≤ length w) × (x ≤ length f)
       divides-room = (
         omega (arith, shows .1, words-are, R .inside),
         omega (
@@ -179,12 +199,40 @@ module _ {p n : ℤ} {e t a b g f v : List ℤ} {passed : gcdNumber p n e t a b 
         ),
       )
 
-      pub divides-given : (f′ : List ℤ) → f′ ≡ factorBuffer f (seg at x w) → (v′ : List ℤ) → Put 0 (copies (R .c) (pos 0 ∷ [])) w v′
+      divides-given : (f′ : List ℤ) → f′ ≡ factorBuffer f (seg at x w) → (v′ : List ℤ) → Put 0 (copies (R .c) (pos 0 ∷ [])) w v′
           → GcdGiven p n e t a b g f v (Factor l) g f′ v′
       divides-given f′ ef v′ put =
           given p n e t a b g f v passed (shown (shows .0 .factor)) (shows .0 .is) (Factor l) g f′ v′ (ap factor (shows .0 .level-is)) refl
           (shows-buffer (num p) p-pos d (num n) θ w l at (shows .0) x words-are f f′ ef) (R .clears .1 v′ put)
 
-  pub never-given : R .o ≡ Never → (v′ : List ℤ) → Put 0 (copies (R .c) (pos 0 ∷ [])) w v′ → GcdGiven p n e t a b g f v (Refused 11) g f v′
+  never-given : R .o ≡ Never → (v′ : List ℤ) → Put 0 (copies (R .c) (pos 0 ∷ [])) w v′ → GcdGiven p n e t a b g f v (Refused 11) g f v′
   never-given u v′ put =
       given p n e t a b g f v passed long (finds-never (num p) p-pos d (num n) θ w (R .top) X (R .o) (R .found) u) (Refused 11) g f v′ refl refl refl (R .clears .1 v′ put)
+
+  -- by what was found: its words may be copied out, and what the call gives then
+  ready-by : (x : Found) → R .o ≡ x → FoundReady x s w g f
+  ready-by (Greatest at l) u = record {
+    known = is .known;
+    inside = greatest-inside at l u;
+    few = greatest-few at l u (slotCount (s .size) (length g)) refl;
+    long = subst (λ x. 1 + slotCount x (length g) * x ≡ length g) (sym size-of) (g-length p n e t a b g f v passed);
+    short = held p n e t a b g f v passed .slots .long .1 .1 .0 .short;
+  }
+  ready-by (Divides l at) u = let room = divides-room l at u (getD (s .sizes) l 0) refl in (divides-level l at u, room .0, room .1)
+  ready-by Never u = tt
+
+  given-by : (x : Found) → R .o ≡ x → (r : CallAnswer) (g′ f′ : List ℤ) → FoundGiven x s w g f r g′ f′
+      → (v′ : List ℤ) → Put 0 (copies (R .c) (pos 0 ∷ [])) w v′ → GcdGiven p n e t a b g f v r g′ f′ v′
+  given-by (Greatest at l) u r g′ f′ (er, G, ef) v′ clear =
+      subst₂ (λ x y. GcdGiven p n e t a b g f v x g′ y v′) (sym er) (sym ef)
+      (greatest-given at l u (slotCount (s .size) (length g)) refl (G .copied) (G .put) g′ (G .ended) v′ clear)
+  given-by (Divides l at) u r g′ f′ (er, eg, ef) v′ clear =
+      subst₂ (λ x y. GcdGiven p n e t a b g f v x y f′ v′) (sym er) (sym eg) (divides-given l at u (getD (s .sizes) l 0) refl f′ ef v′ clear)
+  given-by Never u r g′ f′ (er, eg, ef) v′ clear = subst₃ (λ x y z. GcdGiven p n e t a b g f v x y z v′) (sym er) (sym eg) (sym ef) (never-given u v′ clear)
+
+  pub found-ready : FoundReady (R .o) s w g f
+  found-ready = ready-by (R .o) refl
+
+  pub found-given : (r : CallAnswer) (g′ f′ : List ℤ) → FoundGiven (R .o) s w g f r g′ f′
+      → (v′ : List ℤ) → Put 0 (copies (R .c) (pos 0 ∷ [])) w v′ → GcdGiven p n e t a b g f v r g′ f′ v′
+  found-given = given-by (R .o) refl

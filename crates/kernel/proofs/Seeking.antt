@@ -1,7 +1,7 @@
 -- Laws of the numbers of a GCD.
 --
 -- gcd-first .. gcd-end == the number, test by test, with the values that the calls gave;  gcd-counts == the degree words that are read count few
--- gcd-number-is        == the tests behind those of the tower;  needed-found == the work words
+-- gcd-number-is        == the tests behind those of the tower;  needed-found, needed-ready == the work words, and that they can be counted
 use Rattle.kernel.proofs.Order.{then-first, then-next, zero-of}
 use Rattle.kernel.proofs.Shapes.{size-found}
 use Rattle.kernel.proofs.Slotting.{three-allowed, count-low}
@@ -11,7 +11,8 @@ use Rattle.kernel.specs.Gcds.{gcdRoom, gcdNeeded, gcdNumber}
 use Rattle.kernel.specs.Inverses.{elementLength}
 use Rattle.kernel.specs.Meaning.{tower-behind, tower-says}
 use Rattle.kernel.specs.Refusals.{unless, andThen}
-use Rattle.kernel.specs.Shape.{ShapeOf}
+use Rattle.kernel.specs.Parts.{NeededReady}
+use Rattle.kernel.specs.Shape.{Known, ShapeOf}
 use Rattle.kernel.specs.Slots.{degreeCount}
 use Rattle.kernel.specs.declared.Shape.{Shape}
 use Rattle.residue.specs.Word.{num}
@@ -36,11 +37,23 @@ last-apart true false z w = refl
 last-apart false y z w = refl
 
 -- the work words, with the values that the calls gave
-pub needed-found : (p n : ℤ) (e a b : List ℤ) (s : Shape) → ShapeOf n e s → (j k : ℕ) → j ≡ degreeCount a → k ≡ degreeCount b
-    → (i : ℕ) → i ≡ inverseWork (s .degrees) (s .levels) → (w : ℕ) → w ≡ j * s .size + 1 + (k * s .size + 1) + 2 * s .size + i → w ≡ gcdNeeded n e a b
-needed-found p n e a b s is j k ej ek i ei w ew =
-    gcd-is (degreesOf e) (num n) j k (s .size) i w (size-found p n e s is (num p) refl) (ei ∙ ap₂ inverseWork (is .degrees) (is .levels)) ew
-    ∙ ap₂ (gcdWork (degreesOf e) (num n)) ej ek
+pub needed-found : (p n : ℤ) (e a b : List ℤ) (s : Shape) → ShapeOf n e s
+    → (w : ℕ) → w ≡ degreeCount a * s .size + 1 + (degreeCount b * s .size + 1) + 2 * s .size + inverseWork (s .degrees) (s .levels) → w ≡ gcdNeeded n e a b
+needed-found p n e a b s is w ew =
+    gcd-is (degreesOf e) (num n) (degreeCount a) (degreeCount b) (s .size) (inverseWork (s .degrees) (s .levels)) w
+    (size-found p n e s is (num p) refl) (ap₂ inverseWork (is .degrees) (is .levels)) ew
+
+-- they can be counted
+pub needed-ready : (s : Shape) → Known s → (a b : List ℤ) → (0 < length a) × (0 < length b) → (degreeCount a ≤ 256) × (degreeCount b ≤ 256)
+    → NeededReady (s .levels) (s .degrees) (s .size) a b
+needed-ready s k a b some few = record {
+  degrees = record { low = k .low; small = k .small; some = k .some };
+  few = k .few;
+  some-a = some .0;
+  some-b = some .1;
+  few-a = few .0;
+  few-b = few .1;
+}
 
 module _ (p n : ℤ) (e t a b g f v : List ℤ) where
   abbrev lengths : Bool
@@ -119,11 +132,12 @@ module _ (p n : ℤ) (e t a b g f v : List ℤ) where
               pub gcd-small : m < o → 6 ≡ gcdNumber p n e t a b g f v
               gcd-small l = gcd-rest h true true false _ lengths-fine (forms-told ∙ fy) (room-told ∙ lt-leb o m l) refl
 
-              module _ (l : o ≤ m) (i : ℕ) (ei : i ≡ inverseWork (s .degrees) (s .levels)) (w : ℕ) (ew : w ≡ j * s .size + 1 + (k * s .size + 1) + 2 * s .size + i) where
+              module _ (l : o ≤ m) (w : ℕ)
+                  (ew : w ≡ degreeCount a * s .size + 1 + (degreeCount b * s .size + 1) + 2 * s .size + inverseWork (s .degrees) (s .levels)) where
                 gcd-last : (z : Bool) → leb w (length v) ≡ z → unless z 7 0 ≡ gcdNumber p n e t a b g f v
                 gcd-last z q =
                     gcd-rest h true true true z lengths-fine (forms-told ∙ fy) (room-told ∙ le-leb o m l)
-                    (ap (λ u. leb u (length v)) (sym (needed-found p n e a b s is j k ej ek i ei w ew)) ∙ q)
+                    (ap (λ u. leb u (length v)) (sym (needed-found p n e a b s is w ew)) ∙ q)
 
                 pub gcd-few : length v < w → 7 ≡ gcdNumber p n e t a b g f v
                 gcd-few q = gcd-last false (lt-leb w (length v) q)

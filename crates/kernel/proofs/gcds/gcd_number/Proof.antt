@@ -9,12 +9,13 @@ use Rattle.kernel.proofs.Told.{of-words}
 use Rattle.kernel.proofs.Shapes.{tower-zero}
 use Rattle.kernel.proofs.Viewing.{shape-some}
 use Rattle.kernel.proofs.Slotting.{three-allowed, three-some}
-use Rattle.kernel.proofs.Seeking.{gcd-first, gcd-short, gcd-odd, gcd-bad, gcd-counts, gcd-small, gcd-few, gcd-end}
+use Rattle.kernel.proofs.Seeking.{gcd-first, gcd-short, gcd-odd, gcd-bad, gcd-counts, gcd-small, gcd-few, gcd-end, needed-ready}
 use borrow.Author.Needs.{needs}
 use Rattle.kernel.proofs.gcds.gcd_number.Statement.{statement}
 use Rattle.kernel.proofs.gcds.gcd_number.Tie as tie
 use Rattle.kernel.proofs.gcds.gcd_number.Reads as reads
 use Rattle.kernel.proofs.gcds.gcd_number.Lts as lts
+use Rattle.kernel.proofs.gcds.gcd_needed.Reads as gcd-needed-reads
 use Rattle.kernel.proofs.gcds.gcd_room.Reads as gcd-room-reads
 use Rattle.kernel.proofs.numbers.coefficients.Reads as coefficients-reads
 use Rattle.kernel.proofs.numbers.shape_of.Reads as shape-of-reads
@@ -23,8 +24,6 @@ use Rattle.kernel.proofs.slots.three_lengths_ok.Reads as three-lengths-
 use Rattle.kernel.proofs.sums.forms_ok.Reads as forms-ok-reads
 use Rattle.residue.proofs.number.Reads as number-reads
 use Rattle.tower.proofs.words.count_at.Reads as count-at-reads
-use Rattle.tower.proofs.work.gcd_work.Reads as gcd-work-reads
-use Rattle.tower.proofs.work.inverse_work.Reads as inverse-work-reads
 
 tower-number-requires : tie.Need-tower-number-requires
 tower-number-requires c κs = search needs
@@ -119,34 +118,34 @@ returns-4 c =
     (not-false _ (if2 .left)) (if3 .left) (number .result) (number .ensures) (forms-ok .result) (forms-ok .ensures) (not-true _ (if4 .taken))
     ∙ of-words (λ i j. gcdNumber i j (x .e) (x .t .now) (x .a .now) (x .b .now) (x .g .now) (x .f .now) (x .v .now)) (s .fits .p) (s .fits .n)
 
-count-at-requires : tie.Need-count-at-requires
-count-at-requires c κs =
+coefficients-requires : tie.Need-coefficients-requires
+coefficients-requires c κs =
     let x = c .before .before .before .before .before .before .before .before .before .before .args in
     let shape-of = c .before .before .before .before .before .before .before .shape-of in
     let three-lengths-ok = c .before .before .before .before .before .before .three-lengths-ok in
     let if2 = c .before .before .before .before .before .if2 in
+    let h =
     three-some (shape-of .result .size) (length (x .a .now)) (length (x .b .now)) (length (x .g .now)) (three-lengths-ok .result)
-    (three-lengths-ok .ensures) (not-false _ (if2 .left)) .0
+    (three-lengths-ok .ensures) (not-false _ (if2 .left)) in
+    (shape-some (shape-of .result) (shape-of .ensures .known), h .2)
 
-count-at-requires-2 : tie.Need-count-at-requires-2
-count-at-requires-2 c κs =
+count-at-requires : tie.Need-count-at-requires
+count-at-requires c κs =
     let x = c .before .before .before .before .before .before .before .before .before .before .before .args in
     let shape-of = c .before .before .before .before .before .before .before .before .shape-of in
     let three-lengths-ok = c .before .before .before .before .before .before .before .three-lengths-ok in
     let if2 = c .before .before .before .before .before .before .if2 in
     three-some (shape-of .result .size) (length (x .a .now)) (length (x .b .now)) (length (x .g .now)) (three-lengths-ok .result)
-    (three-lengths-ok .ensures) (not-false _ (if2 .left)) .1
+    (three-lengths-ok .ensures) (not-false _ (if2 .left)) .0
 
-coefficients-requires : tie.Need-coefficients-requires
-coefficients-requires c κs =
+count-at-requires-2 : tie.Need-count-at-requires-2
+count-at-requires-2 c κs =
     let x = c .before .before .before .before .before .before .before .before .before .before .before .before .args in
     let shape-of = c .before .before .before .before .before .before .before .before .before .shape-of in
     let three-lengths-ok = c .before .before .before .before .before .before .before .before .three-lengths-ok in
     let if2 = c .before .before .before .before .before .before .before .if2 in
-    let h =
     three-some (shape-of .result .size) (length (x .a .now)) (length (x .b .now)) (length (x .g .now)) (three-lengths-ok .result)
-    (three-lengths-ok .ensures) (not-false _ (if2 .left)) in
-    (shape-some (shape-of .result) (shape-of .ensures .known), h .2)
+    (three-lengths-ok .ensures) (not-false _ (if2 .left)) .1
 
 gcd-room-requires : tie.Need-gcd-room-requires
 gcd-room-requires c κs = search needs
@@ -166,9 +165,9 @@ returns-5 c =
     let number = c .before .before .before .before .before .before .before .number in
     let forms-ok = c .before .before .before .before .before .before .forms-ok in
     let if4 = c .before .before .before .before .before .if4 in
-    let count-at = c .before .before .before .before .count-at in
-    let count-at2 = c .before .before .before .count-at2 in
-    let coefficients = c .before .before .coefficients in
+    let coefficients = c .before .before .before .before .coefficients in
+    let count-at = c .before .before .before .count-at in
+    let count-at2 = c .before .before .count-at2 in
     let gcd-room = c .before .gcd-room in
     let if5 = c .if5 in
     gcd-small p n (x .e) (x .t .now) (x .a .now) (x .b .now) (x .g .now) (x .f .now) (x .v .now) (tower-number .result) (tower-number .ensures)
@@ -178,90 +177,85 @@ returns-5 c =
     (gcd-room .result) (gcd-room .ensures) (if5 .taken)
     ∙ of-words (λ i j. gcdNumber i j (x .e) (x .t .now) (x .a .now) (x .b .now) (x .g .now) (x .f .now) (x .v .now)) (s .fits .p) (s .fits .n)
 
-inverse-work-requires : tie.Need-inverse-work-requires
-inverse-work-requires c κs = search needs
-
-gcd-work-requires : tie.Need-gcd-work-requires
-gcd-work-requires c κs =
-    let x = c .before .before .before .before .before .before .before .before .before .before .before .before .before .before .before .before .before .args in
-    let p = toZ w64 (ofZ w64 (x .p)) in
-    let n = toZ w64 (ofZ w64 (x .n)) in
-    let tower-number = c .before .before .before .before .before .before .before .before .before .before .before .before .before .before .before .before .tower-number in
-    let if1 = c .before .before .before .before .before .before .before .before .before .before .before .before .before .before .before .if1 in
-    let shape-of = c .before .before .before .before .before .before .before .before .before .before .before .before .before .before .shape-of in
-    let three-lengths-ok = c .before .before .before .before .before .before .before .before .before .before .before .before .before .three-lengths-ok in
-    let if2 = c .before .before .before .before .before .before .before .before .before .before .before .before .if2 in
-    let if3 = c .before .before .before .before .before .before .before .before .before .before .if3 in
-    let number = c .before .before .before .before .before .before .before .before .before .number in
-    let forms-ok = c .before .before .before .before .before .before .before .before .forms-ok in
-    let if4 = c .before .before .before .before .before .before .before .if4 in
-    let count-at = c .before .before .before .before .before .before .count-at in
-    let count-at2 = c .before .before .before .before .before .count-at2 in
-    let inverse-work = c .inverse-work in
-    let h =
-    gcd-counts p n (x .e) (x .t .now) (x .a .now) (x .b .now) (x .g .now) (x .f .now) (x .v .now) (tower-number .result) (tower-number .ensures)
-    (if1 .left) (shape-of .result) (shape-of .ensures) (three-lengths-ok .result) (three-lengths-ok .ensures)
-    (not-false _ (if2 .left)) (if3 .left) (number .result) (number .ensures) (forms-ok .result) (forms-ok .ensures) (not-false _ (if4 .left)) in
-    ((omega (arith, h .0, count-at .ensures), omega (arith, h .1, count-at2 .ensures)), (shape-of .ensures .known .few, inverse-work .ensures .1))
-
-returns-6 : tie.Need-returns-6
-returns-6 c =
-    let s = c .before .before .before .before .before .before .before .before .before .before .before .before .before .before .before .before .before .before .before in
+gcd-needed-requires : tie.Need-gcd-needed-requires
+gcd-needed-requires c κs =
+    let s = c .before .before .before .before .before .before .before .before .before .before .before .before .before .before .before .before in
     let x = s .args in
     let p = toZ w64 (ofZ w64 (x .p)) in
     let n = toZ w64 (ofZ w64 (x .n)) in
-    let tower-number = c .before .before .before .before .before .before .before .before .before .before .before .before .before .before .before .before .before .before .tower-number in
-    let if1 = c .before .before .before .before .before .before .before .before .before .before .before .before .before .before .before .before .before .if1 in
-    let shape-of = c .before .before .before .before .before .before .before .before .before .before .before .before .before .before .before .before .shape-of in
-    let three-lengths-ok = c .before .before .before .before .before .before .before .before .before .before .before .before .before .before .before .three-lengths-ok in
-    let if2 = c .before .before .before .before .before .before .before .before .before .before .before .before .before .before .if2 in
-    let if3 = c .before .before .before .before .before .before .before .before .before .before .before .before .if3 in
-    let number = c .before .before .before .before .before .before .before .before .before .before .before .number in
-    let forms-ok = c .before .before .before .before .before .before .before .before .before .before .forms-ok in
-    let if4 = c .before .before .before .before .before .before .before .before .before .if4 in
-    let count-at = c .before .before .before .before .before .before .before .before .count-at in
-    let count-at2 = c .before .before .before .before .before .before .before .count-at2 in
-    let coefficients = c .before .before .before .before .before .before .coefficients in
-    let gcd-room = c .before .before .before .before .before .gcd-room in
-    let if5 = c .before .before .before .before .if5 in
-    let inverse-work = c .before .before .inverse-work in
-    let gcd-work = c .before .gcd-work in
+    let tower-number = c .before .before .before .before .before .before .before .before .before .before .before .before .before .before .before .tower-number in
+    let if1 = c .before .before .before .before .before .before .before .before .before .before .before .before .before .before .if1 in
+    let shape-of = c .before .before .before .before .before .before .before .before .before .before .before .before .before .shape-of in
+    let three-lengths-ok = c .before .before .before .before .before .before .before .before .before .before .before .before .three-lengths-ok in
+    let if2 = c .before .before .before .before .before .before .before .before .before .before .before .if2 in
+    let if3 = c .before .before .before .before .before .before .before .before .before .if3 in
+    let number = c .before .before .before .before .before .before .before .before .number in
+    let forms-ok = c .before .before .before .before .before .before .before .forms-ok in
+    let if4 = c .before .before .before .before .before .before .if4 in
+    let some =
+    three-some (shape-of .result .size) (length (x .a .now)) (length (x .b .now)) (length (x .g .now)) (three-lengths-ok .result)
+    (three-lengths-ok .ensures) (not-false _ (if2 .left)) in
+    needed-ready (shape-of .result) (shape-of .ensures .known) (x .a .now) (x .b .now) (some .0, some .1)
+    (gcd-counts p n (x .e) (x .t .now) (x .a .now) (x .b .now) (x .g .now) (x .f .now) (x .v .now) (tower-number .result) (tower-number .ensures)
+    (if1 .left) (shape-of .result) (shape-of .ensures) (three-lengths-ok .result) (three-lengths-ok .ensures)
+    (not-false _ (if2 .left)) (if3 .left) (number .result) (number .ensures) (forms-ok .result) (forms-ok .ensures) (not-false _ (if4 .left)))
+
+returns-6 : tie.Need-returns-6
+returns-6 c =
+    let s = c .before .before .before .before .before .before .before .before .before .before .before .before .before .before .before .before .before .before in
+    let x = s .args in
+    let p = toZ w64 (ofZ w64 (x .p)) in
+    let n = toZ w64 (ofZ w64 (x .n)) in
+    let tower-number = c .before .before .before .before .before .before .before .before .before .before .before .before .before .before .before .before .before .tower-number in
+    let if1 = c .before .before .before .before .before .before .before .before .before .before .before .before .before .before .before .before .if1 in
+    let shape-of = c .before .before .before .before .before .before .before .before .before .before .before .before .before .before .before .shape-of in
+    let three-lengths-ok = c .before .before .before .before .before .before .before .before .before .before .before .before .before .before .three-lengths-ok in
+    let if2 = c .before .before .before .before .before .before .before .before .before .before .before .before .before .if2 in
+    let if3 = c .before .before .before .before .before .before .before .before .before .before .before .if3 in
+    let number = c .before .before .before .before .before .before .before .before .before .before .number in
+    let forms-ok = c .before .before .before .before .before .before .before .before .before .forms-ok in
+    let if4 = c .before .before .before .before .before .before .before .before .if4 in
+    let coefficients = c .before .before .before .before .before .before .before .coefficients in
+    let count-at = c .before .before .before .before .before .before .count-at in
+    let count-at2 = c .before .before .before .before .before .count-at2 in
+    let gcd-room = c .before .before .before .before .gcd-room in
+    let if5 = c .before .before .before .if5 in
+    let gcd-needed = c .before .gcd-needed in
     let if6 = c .if6 in
     gcd-few p n (x .e) (x .t .now) (x .a .now) (x .b .now) (x .g .now) (x .f .now) (x .v .now) (tower-number .result) (tower-number .ensures)
     (if1 .left) (shape-of .result) (shape-of .ensures) (three-lengths-ok .result) (three-lengths-ok .ensures)
     (not-false _ (if2 .left)) (if3 .left) (number .result) (number .ensures) (forms-ok .result) (forms-ok .ensures)
     (not-false _ (if4 .left)) (count-at .result) (count-at2 .result) (count-at .ensures) (count-at2 .ensures) (coefficients .result) (coefficients .ensures)
-    (gcd-room .result) (gcd-room .ensures) (if5 .left) (inverse-work .result) (inverse-work .ensures .0) (gcd-work .result) (gcd-work .ensures) (if6 .taken)
+    (gcd-room .result) (gcd-room .ensures) (if5 .left) (gcd-needed .result) (gcd-needed .ensures) (if6 .taken)
     ∙ of-words (λ i j. gcdNumber i j (x .e) (x .t .now) (x .a .now) (x .b .now) (x .g .now) (x .f .now) (x .v .now)) (s .fits .p) (s .fits .n)
 
 returns-7 : tie.Need-returns-7
 returns-7 c =
-    let s = c .before .before .before .before .before .before .before .before .before .before .before .before .before .before .before .before .before .before .before in
+    let s = c .before .before .before .before .before .before .before .before .before .before .before .before .before .before .before .before .before .before in
     let x = s .args in
     let p = toZ w64 (ofZ w64 (x .p)) in
     let n = toZ w64 (ofZ w64 (x .n)) in
-    let tower-number = c .before .before .before .before .before .before .before .before .before .before .before .before .before .before .before .before .before .before .tower-number in
-    let if1 = c .before .before .before .before .before .before .before .before .before .before .before .before .before .before .before .before .before .if1 in
-    let shape-of = c .before .before .before .before .before .before .before .before .before .before .before .before .before .before .before .before .shape-of in
-    let three-lengths-ok = c .before .before .before .before .before .before .before .before .before .before .before .before .before .before .before .three-lengths-ok in
-    let if2 = c .before .before .before .before .before .before .before .before .before .before .before .before .before .before .if2 in
-    let if3 = c .before .before .before .before .before .before .before .before .before .before .before .before .if3 in
-    let number = c .before .before .before .before .before .before .before .before .before .before .before .number in
-    let forms-ok = c .before .before .before .before .before .before .before .before .before .before .forms-ok in
-    let if4 = c .before .before .before .before .before .before .before .before .before .if4 in
-    let count-at = c .before .before .before .before .before .before .before .before .count-at in
-    let count-at2 = c .before .before .before .before .before .before .before .count-at2 in
-    let coefficients = c .before .before .before .before .before .before .coefficients in
-    let gcd-room = c .before .before .before .before .before .gcd-room in
-    let if5 = c .before .before .before .before .if5 in
-    let inverse-work = c .before .before .inverse-work in
-    let gcd-work = c .before .gcd-work in
+    let tower-number = c .before .before .before .before .before .before .before .before .before .before .before .before .before .before .before .before .before .tower-number in
+    let if1 = c .before .before .before .before .before .before .before .before .before .before .before .before .before .before .before .before .if1 in
+    let shape-of = c .before .before .before .before .before .before .before .before .before .before .before .before .before .before .before .shape-of in
+    let three-lengths-ok = c .before .before .before .before .before .before .before .before .before .before .before .before .before .before .three-lengths-ok in
+    let if2 = c .before .before .before .before .before .before .before .before .before .before .before .before .before .if2 in
+    let if3 = c .before .before .before .before .before .before .before .before .before .before .before .if3 in
+    let number = c .before .before .before .before .before .before .before .before .before .before .number in
+    let forms-ok = c .before .before .before .before .before .before .before .before .before .forms-ok in
+    let if4 = c .before .before .before .before .before .before .before .before .if4 in
+    let coefficients = c .before .before .before .before .before .before .before .coefficients in
+    let count-at = c .before .before .before .before .before .before .count-at in
+    let count-at2 = c .before .before .before .before .before .count-at2 in
+    let gcd-room = c .before .before .before .before .gcd-room in
+    let if5 = c .before .before .before .if5 in
+    let gcd-needed = c .before .gcd-needed in
     let if6 = c .if6 in
     gcd-end p n (x .e) (x .t .now) (x .a .now) (x .b .now) (x .g .now) (x .f .now) (x .v .now) (tower-number .result) (tower-number .ensures)
     (if1 .left) (shape-of .result) (shape-of .ensures) (three-lengths-ok .result) (three-lengths-ok .ensures)
     (not-false _ (if2 .left)) (if3 .left) (number .result) (number .ensures) (forms-ok .result) (forms-ok .ensures)
     (not-false _ (if4 .left)) (count-at .result) (count-at2 .result) (count-at .ensures) (count-at2 .ensures) (coefficients .result) (coefficients .ensures)
-    (gcd-room .result) (gcd-room .ensures) (if5 .left) (inverse-work .result) (inverse-work .ensures .0) (gcd-work .result) (gcd-work .ensures) (if6 .left)
+    (gcd-room .result) (gcd-room .ensures) (if5 .left) (gcd-needed .result) (gcd-needed .ensures) (if6 .left)
     ∙ of-words (λ i j. gcdNumber i j (x .e) (x .t .now) (x .a .now) (x .b .now) (x .g .now) (x .f .now) (x .v .now)) (s .fits .p) (s .fits .n)
 
 pub gcd-number-spec : {M : Type 1} → statement M
@@ -277,12 +271,11 @@ gcd-number-spec =
     number-requires
     forms-ok-requires
     returns-4
+    coefficients-requires
     count-at-requires
     count-at-requires-2
-    coefficients-requires
     gcd-room-requires
     returns-5
-    inverse-work-requires
-    gcd-work-requires
+    gcd-needed-requires
     returns-6
     returns-7)
