@@ -71,7 +71,8 @@ module _ (o : Found) (s : Shape) (v g f : List ℤ) where
             subst (λ x. FoundGiven x s v g f Done g₂ f) (sym u)
             (refl, record { copied = g₁; put = put; ended = subst (λ m. Finished (s .levels) m k (m - k) (s .degrees) g₁ g₂) em F }, refl)
 
-  pub copied-divides : (l at : ℕ) → o ≡ Divides l at → (k : ℕ) → k ≡ getD (s .sizes) l 0 → (f′ : List ℤ) → f′ ≡ factorBuffer f (seg at k v) → FoundGiven o s v g f (Factor l) g f′
+  pub copied-divides : (l at : ℕ) → o ≡ Divides l at → (k : ℕ) → k ≡ getD (s .sizes) l 0 → (f′ : List ℤ) → f′ ≡ factorBuffer f (seg at k v)
+      → FoundGiven o s v g f (Factor l) g f′
   copied-divides l at u k ek f′ ef = subst (λ x. FoundGiven x s v g f (Factor l) g f′) (sym u) (refl, refl, ef ∙ ap (λ j. factorBuffer f (seg at j v)) ek)
 
   pub copied-never : o ≡ Never → FoundGiven o s v g f (Refused 11) g f

@@ -20,7 +20,7 @@ use Rattle.tower.proofs.Working.{gcd-is}
 use Rattle.tower.specs.Form.{slotForm}
 use Rattle.tower.specs.Limits.{degreesOf, slotLength, slotCount}
 use Rattle.tower.specs.Lists.{of-true}
-use Rattle.tower.specs.Work.{inverseWork, gcdWork}
+use Rattle.tower.specs.Work.{inverseWork}
 use borrow.Author.Tests.{eq-eqb, ne-eqb, le-leb, lt-leb}
 use mathlib.Core.Path.{_≡_, refl, sym, ap, ap₂, _∙_}
 use mathlib.Core.Bool.{Bool, true, false, _&&_}
@@ -107,7 +107,8 @@ module _ (p n : ℤ) (e t a b g f v : List ℤ) where
         gcd-odd q = gcd-rest h false _ _ _ (buffer-told false (ne-eqb (length f) (s .size) q)) refl refl refl
 
         module _ (ef : length f ≡ s .size) (q : ℕ) (eq : q ≡ num p) (y : Bool)
-            (ey : y ≡ (slotForm q (s .degrees) (s .levels) (slotCount (s .size) (length a)) a && slotForm q (s .degrees) (s .levels) (slotCount (s .size) (length b)) b)) where
+            (ey : y ≡ (slotForm q (s .degrees) (s .levels) (slotCount (s .size) (length a)) a && slotForm q (s .degrees) (s .levels)
+            (slotCount (s .size) (length b)) b)) where
           lengths-fine : lengths ≡ true
           lengths-fine = buffer-told true (eq-eqb (length f) (s .size) ef)
 

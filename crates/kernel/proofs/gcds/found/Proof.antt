@@ -37,7 +37,9 @@ Tested =
       clear-reads.Learnt,
     ) reads.Pre reads.Post
 
-abbrev passed : (c : Tested) → (let x = c .before .before .before .before .before .args in gcdNumber (toZ w64 (ofZ w64 (x .p))) (toZ w64 (ofZ w64 (x .n))) (x .e) (x .t .now) (x .a .now) (x .b .now) (x .g .now) (x .f .now) (x .v .now) ≡ 0)
+abbrev passed : (c : Tested)
+    → (let x = c .before .before .before .before .before .args in
+    gcdNumber (toZ w64 (ofZ w64 (x .p))) (toZ w64 (ofZ w64 (x .n))) (x .e) (x .t .now) (x .a .now) (x .b .now) (x .g .now) (x .f .now) (x .v .now) ≡ 0)
 passed c =
     let gcd-number = c .before .gcd-number in
     sym (zero-of (gcd-number .result) (c .if1 .left) ∙ gcd-number .ensures)
@@ -62,12 +64,14 @@ Ran =
 
 abbrev ran : (c : Ran)
     → (let x = c .before .before .before .before .before .before .before .before .before .before .args in
-    Sought (toZ w64 (ofZ w64 (x .p))) (toZ w64 (ofZ w64 (x .n))) (x .e) (x .t .now) (x .a .now) (x .b .now) (x .g .now) (x .f .now) (x .v .now) (passed (c .before .before .before .before .before)))
+    Sought (toZ w64 (ofZ w64 (x .p))) (toZ w64 (ofZ w64 (x .n))) (x .e) (x .t .now) (x .a .now) (x .b .now) (x .g .now) (x .f .now) (x .v .now)
+    (passed (c .before .before .before .before .before)))
 ran c =
     let x = c .before .before .before .before .before .before .before .before .before .before .args in
     let shape-of = c .before .before .before .before .shape-of in
     let gcd-needed = c .before .before .gcd-needed in
-    sought (toZ w64 (ofZ w64 (x .p))) (toZ w64 (ofZ w64 (x .n))) (x .e) (x .t .now) (x .a .now) (x .b .now) (x .g .now) (x .f .now) (x .v .now) (passed (c .before .before .before .before .before))
+    sought (toZ w64 (ofZ w64 (x .p))) (toZ w64 (ofZ w64 (x .n))) (x .e) (x .t .now) (x .a .now) (x .b .now) (x .g .now) (x .f .now) (x .v .now)
+    (passed (c .before .before .before .before .before))
     (shape-of .result) (shape-of .ensures) _ (c .sought .result) (c .sought .ensures) (gcd-needed .result) (gcd-needed .ensures)
 
 gcd-number-requires : tie.Need-gcd-number-requires
@@ -106,7 +110,8 @@ gcd-needed-requires c κs =
     let shape-of = c .before .shape-of in
     let none = passed (c .before .before) in
     let some = slots-some p n (x .e) (x .t .now) (x .a .now) (x .b .now) (x .g .now) (x .f .now) (x .v .now) none in
-    needed-ready (shape-of .result) (shape-of .ensures .known) (x .a .now) (x .b .now) (some .0, some .1) (few-counts p n (x .e) (x .t .now) (x .a .now) (x .b .now) (x .g .now) (x .f .now) (x .v .now) none)
+    needed-ready (shape-of .result) (shape-of .ensures .known) (x .a .now) (x .b .now) (some .0, some .1) (few-counts p n (x .e) (x .t .now) (x .a .now) (x .b .now)
+    (x .g .now) (x .f .now) (x .v .now) none)
 
 sought-requires : tie.Need-sought-requires
 sought-requires c κs =
@@ -138,7 +143,8 @@ returns-2 c =
     let begun = c .before .before .before .before .before .before .before .before .before .before .before .before .before .before .before .before .before .before .before .before in
     let found-answer = c .before .before .before .before .before .found-answer in
     let clear = c .before .clear in
-    gcd-plain (begun .fits .p) (begun .fits .n) (found-given (ran k) (found-answer .result) _ _ (found-answer .ensures) _ (clear .ensures))
+    gcd-plain (begun .fits .p) (begun .fits .n)
+    (found-given (ran k) (found-answer .result) _ _ (found-answer .ensures) _ (clear .ensures))
 
 pub found-spec : {M : Type 1} → statement M
 found-spec =

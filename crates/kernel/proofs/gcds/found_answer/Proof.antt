@@ -21,28 +21,47 @@ coefficients-requires : tie.Need-coefficients-requires
 coefficients-requires c κs =
     let x = c .before .before .before .before .before in
     let o = c .before .o in
-    let words = words-greatest (x .args .o) (x .args .s) (x .args .v .now) (x .args .g .now) (x .args .f .now) (o .given .0 .0) (o .given .0 .1 .0) (o .given .1) (x .pre) in
-    (shape-some (x .args .s) (fits-greatest (x .args .o) (x .args .s) (x .args .v .now) (x .args .g .now) (x .args .f .now) (o .given .0 .0) (o .given .0 .1 .0) (o .given .1) (x .pre) .known), omega (arith, words))
+    let words = words-greatest (x .args .o) (x .args .s) (x .args .v .now) (x .args .g .now) (x .args .f .now) (o .given .0 .0) (o .given .0 .1 .0) (o .given .1)
+    (x .pre) in (
+      shape-some (x .args .s) (fits-greatest (x .args .o) (x .args .s) (x .args .v .now) (x .args .g .now) (x .args .f .now) (o .given .0 .0) (o .given .0 .1 .0)
+          (o .given .1) (x .pre) .known),
+      omega (arith, words),
+    )
 
 mul-copy-in : tie.Need-mul-copy-in
 mul-copy-in c =
     let x = c .before .before .before .before .before .before .before .before in
     let o = c .before .before .before .before .o in
-    let words = words-greatest (x .args .o) (x .args .s) (x .args .v .now) (x .args .g .now) (x .args .f .now) (o .given .0 .0) (o .given .0 .1 .0) (o .given .1) (x .pre) in
-    omega (arith, words, fits-greatest (x .args .o) (x .args .s) (x .args .v .now) (x .args .g .now) (x .args .f .now) (o .given .0 .0) (o .given .0 .1 .0) (o .given .1) (x .pre) .short)
+    let words = words-greatest (x .args .o) (x .args .s) (x .args .v .now) (x .args .g .now) (x .args .f .now) (o .given .0 .0) (o .given .0 .1 .0) (o .given .1)
+    (x .pre) in
+    omega (
+      arith,
+      words,
+      fits-greatest (x .args .o) (x .args .s) (x .args .v .now) (x .args .g .now) (x .args .f .now) (o .given .0 .0) (o .given .0 .1 .0)
+          (o .given .1) (x .pre) .short,
+    )
 
 copy-in-requires : tie.Need-copy-in-requires
 copy-in-requires c κs =
     let x = c .before .before .before .before .before .before .before .before in
-    let o = c .before .before .before .before .o in
-    (fits-greatest (x .args .o) (x .args .s) (x .args .v .now) (x .args .g .now) (x .args .f .now) (o .given .0 .0) (o .given .0 .1 .0) (o .given .1) (x .pre) .inside, words-greatest (x .args .o) (x .args .s) (x .args .v .now) (x .args .g .now) (x .args .f .now) (o .given .0 .0) (o .given .0 .1 .0) (o .given .1) (x .pre))
+    let o = c .before .before .before .before .o in (
+      fits-greatest (x .args .o) (x .args .s) (x .args .v .now) (x .args .g .now) (x .args .f .now) (o .given .0 .0) (o .given .0 .1 .0) (o .given .1)
+          (x .pre) .inside,
+      words-greatest (x .args .o) (x .args .s) (x .args .v .now) (x .args .g .now) (x .args .f .now) (o .given .0 .0) (o .given .0 .1 .0)
+          (o .given .1) (x .pre),
+    )
 
 sub-finish : tie.Need-sub-finish
 sub-finish c =
     let x = c .before .before .before .before .before .before .before .before .before .before in
     let o = c .before .before .before .before .before .before .o in
     let coefficients = c .before .before .before .before .coefficients in
-    omega (arith, fits-greatest (x .args .o) (x .args .s) (x .args .v .now) (x .args .g .now) (x .args .f .now) (o .given .0 .0) (o .given .0 .1 .0) (o .given .1) (x .pre) .few, coefficients .ensures)
+    omega (
+      arith,
+      fits-greatest (x .args .o) (x .args .s) (x .args .v .now) (x .args .g .now) (x .args .f .now) (o .given .0 .0) (o .given .0 .1 .0) (o .given .1)
+          (x .pre) .few,
+      coefficients .ensures,
+    )
 
 finish-requires : tie.Need-finish-requires
 finish-requires c κs =
@@ -50,7 +69,8 @@ finish-requires c κs =
     let o = c .before .before .before .before .before .before .before .o in
     let coefficients = c .before .before .before .before .before .coefficients in
     let copy-in = c .before .before .copy-in in
-    finish-ready (x .args .o) (x .args .s) (x .args .v .now) (x .args .g .now) (x .args .f .now) (o .given .0 .0) (o .given .0 .1 .0) (o .given .1) (x .pre) (coefficients .result) (coefficients .ensures) _ (copy-in .ensures)
+    finish-ready (x .args .o) (x .args .s) (x .args .v .now) (x .args .g .now) (x .args .f .now) (o .given .0 .0) (o .given .0 .1 .0) (o .given .1) (x .pre)
+    (coefficients .result) (coefficients .ensures) _ (copy-in .ensures)
 
 enum-known-o-2 : tie.Need-enum-known-o-2
 enum-known-o-2 c = search needs

@@ -79,7 +79,8 @@ coefficient-at-requires c κs =
     let shape-of = c .before .before .before .before .shape-of in
     let count-at = c .before .count-at in
     let count-at2 = c .count-at2 in
-    let few = few-words p n (x .e) (x .t .now) (x .a .now) (x .b .now) (h .g) (h .f) (x .v .now) (h .passed) (shape-of .result) (shape-of .ensures) (count-at .result) (count-at2 .result) (count-at .ensures) (count-at2 .ensures) in
+    let few = few-words p n (x .e) (x .t .now) (x .a .now) (x .b .now) (h .g) (h .f) (x .v .now) (h .passed) (shape-of .result) (shape-of .ensures)
+    (count-at .result) (count-at2 .result) (count-at .ensures) (count-at2 .ensures) in
     omega (arith, few .0)
 
 add-row : tie.Need-add-row
@@ -93,7 +94,8 @@ add-row c =
     let count-at = c .before .before .count-at in
     let count-at2 = c .before .count-at2 in
     let coefficient-at = c .coefficient-at in
-    let few = few-words p n (x .e) (x .t .now) (x .a .now) (x .b .now) (h .g) (h .f) (x .v .now) (h .passed) (shape-of .result) (shape-of .ensures) (count-at .result) (count-at2 .result) (count-at .ensures) (count-at2 .ensures) in
+    let few = few-words p n (x .e) (x .t .now) (x .a .now) (x .b .now) (h .g) (h .f) (x .v .now) (h .passed) (shape-of .result) (shape-of .ensures)
+    (count-at .result) (count-at2 .result) (count-at .ensures) (count-at2 .ensures) in
     omega (arith, few .0, coefficient-at .ensures)
 
 sub-coefficient-at : tie.Need-sub-coefficient-at
@@ -110,7 +112,8 @@ coefficient-at-requires-2 c κs =
     let count-at = c .before .before .count-at in
     let count-at2 = c .before .count-at2 in
     let coefficient-at = c .coefficient-at in
-    let few = few-words p n (x .e) (x .t .now) (x .a .now) (x .b .now) (h .g) (h .f) (x .v .now) (h .passed) (shape-of .result) (shape-of .ensures) (count-at .result) (count-at2 .result) (count-at .ensures) (count-at2 .ensures) in
+    let few = few-words p n (x .e) (x .t .now) (x .a .now) (x .b .now) (h .g) (h .f) (x .v .now) (h .passed) (shape-of .result) (shape-of .ensures)
+    (count-at .result) (count-at2 .result) (count-at .ensures) (count-at2 .ensures) in
     omega (arith, few .0, few .1, coefficient-at .ensures)
 
 mul-copy-in : tie.Need-mul-copy-in
@@ -164,7 +167,8 @@ add-top c =
     let count-at2 = c .before .before .before .before .before .before .before .before .before .before .before .count-at2 in
     let coefficient-at = c .before .before .before .before .before .before .before .before .before .before .coefficient-at in
     let coefficient-at2 = c .before .before .before .before .before .before .before .before .before .coefficient-at2 in
-    let few = few-words p n (x .e) (x .t .now) (x .a .now) (x .b .now) (h .g) (h .f) (x .v .now) (h .passed) (shape-of .result) (shape-of .ensures) (count-at .result) (count-at2 .result) (count-at .ensures) (count-at2 .ensures) in
+    let few = few-words p n (x .e) (x .t .now) (x .a .now) (x .b .now) (h .g) (h .f) (x .v .now) (h .passed) (shape-of .result) (shape-of .ensures)
+    (count-at .result) (count-at2 .result) (count-at .ensures) (count-at2 .ensures) in
     omega (arith, few .0, few .1, coefficient-at .ensures, coefficient-at2 .ensures, shape-of .ensures .known .few)
 
 mul-top : tie.Need-mul-top
@@ -184,7 +188,8 @@ add-top-2 c =
     let count-at2 = c .before .before .before .before .before .before .before .before .before .before .before .before .count-at2 in
     let coefficient-at = c .before .before .before .before .before .before .before .before .before .before .before .coefficient-at in
     let coefficient-at2 = c .before .before .before .before .before .before .before .before .before .before .coefficient-at2 in
-    let few = few-words p n (x .e) (x .t .now) (x .a .now) (x .b .now) (h .g) (h .f) (x .v .now) (h .passed) (shape-of .result) (shape-of .ensures) (count-at .result) (count-at2 .result) (count-at .ensures) (count-at2 .ensures) in
+    let few = few-words p n (x .e) (x .t .now) (x .a .now) (x .b .now) (h .g) (h .f) (x .v .now) (h .passed) (shape-of .result) (shape-of .ensures)
+    (count-at .result) (count-at2 .result) (count-at .ensures) (count-at2 .ensures) in
     omega (arith, few .0, few .1, coefficient-at .ensures, coefficient-at2 .ensures, shape-of .ensures .known .few)
 
 number-requires : tie.Need-number-requires
@@ -231,7 +236,8 @@ returns c =
     sought-plain (begun .fits .p) (begun .fits .n)
     (sought-done p n (x .e) (x .t .now) (x .a .now) (x .b .now) (h .g) (h .f) (x .v .now) (h .passed)
     (shape-of .result) (shape-of .ensures) (number .result) (number .ensures) (count-at .result) (count-at2 .result) (count-at .ensures) (count-at2 .ensures)
-    (coefficient-at .result) (coefficient-at .ensures) (coefficient-at2 .result) (coefficient-at2 .ensures) _ (copy-in .ensures) _ (copy-in2 .ensures) _ (gcd .result) (gcd .ensures))
+    (coefficient-at .result) (coefficient-at .ensures) (coefficient-at2 .result)
+    (coefficient-at2 .ensures) _ (copy-in .ensures) _ (copy-in2 .ensures) _ (gcd .result) (gcd .ensures))
 
 pub sought-spec : {M : Type 1} → statement M
 sought-spec =

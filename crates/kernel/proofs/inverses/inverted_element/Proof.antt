@@ -97,7 +97,8 @@ run-requires c κs =
       omega (arith, b .pre .0, of-word num (b .fits .n), shape-of .ensures .levels),
       run-ready p n (x .e) (x .t .now) (x .c .now) (x .r .now) (x .f .now) (x .v .now) (passed b) (shape-of .result) (shape-of .ensures) (number .result) (number .ensures)
           (shape-of .result .levels) (shape-of .ensures .levels) _ 0
-          (store-room p n (x .e) (x .t .now) (x .c .now) (x .r .now) (x .f .now) (x .v .now) (passed b) (shape-of .result) (shape-of .ensures) (number .result) (number .ensures)),
+          (store-room p n (x .e) (x .t .now) (x .c .now) (x .r .now) (x .f .now) (x .v .now) (passed b) (shape-of .result) (shape-of .ensures) (number .result)
+          (number .ensures)),
     )
 
 ended-answer-requires : tie.Need-ended-answer-requires

@@ -67,7 +67,8 @@ copy-in-requires c κs =
     let shape-of = c .before .before .before .before .before .before .before .before .before .before .shape-of in
     let number = c .before .before .before .before .before .before .before .number in
     let invert = c .before .before .before .before .before .invert in
-    let some = number-some (ready (c .before .before .before .before .before .before .before .before .before .before .before)) (shape-of .result) (shape-of .ensures) (number .result) (number .ensures) in
+    let some = number-some (ready (c .before .before .before .before .before .before .before .before .before .before .before)) (shape-of .result) (shape-of .ensures)
+    (number .result) (number .ensures) in
     (omega (arith, invert .ensures .frame .long), omega (arith, some .0))
 
 enum-known-level : tie.Need-enum-known-level
@@ -81,7 +82,8 @@ show-requires c κs =
     let shape-of = c .before .before .before .before .before .before .before .before .before .before .before .shape-of in
     let number = c .before .before .before .before .before .before .before .before .number in
     let invert = c .before .before .before .before .before .before .invert in
-    let some = number-some (ready (c .before .before .before .before .before .before .before .before .before .before .before .before)) (shape-of .result) (shape-of .ensures) (number .result) (number .ensures) in
+    let some = number-some (ready (c .before .before .before .before .before .before .before .before .before .before .before .before)) (shape-of .result)
+    (shape-of .ensures) (number .result) (number .ensures) in
     (omega (arith, invert .ensures .frame .long), omega (arith, some .1))
 
 enum-told-2 : tie.Need-enum-told-2
@@ -99,7 +101,8 @@ returns c =
     let enum-told = c .before .before .before .before .enum-told in
     let copy-in = c .before .copy-in in
     number-plain (x .fits .p) (x .fits .n)
-    (number-inverse (ready x) (shape-of .result) (shape-of .ensures) (number .result) (number .ensures) _ _ (invert .result) (invert .ensures) (enum-told .given .1) _ (copy-in .ensures))
+    (number-inverse (ready x) (shape-of .result) (shape-of .ensures) (number .result) (number .ensures) _ _ (invert .result) (invert .ensures)
+    (enum-told .given .1) _ (copy-in .ensures))
 
 same-length-2 : tie.Need-same-length-2
 same-length-2 c = search needs
@@ -113,7 +116,8 @@ returns-2 c =
     let level = c .before .before .before .before .before .level in
     let show = c .before .show in
     number-plain (x .fits .p) (x .fits .n)
-    (number-factor (ready x) (shape-of .result) (shape-of .ensures) (number .result) (number .ensures) _ _ (invert .result) (invert .ensures) (level .given .0 .0) (level .given .1) _ (show .ensures))
+    (number-factor (ready x) (shape-of .result) (shape-of .ensures) (number .result) (number .ensures) _ _ (invert .result) (invert .ensures) (level .given .0 .0)
+    (level .given .1) _ (show .ensures))
 
 returns-3 : tie.Need-returns-3
 returns-3 c =
