@@ -7,7 +7,7 @@ use mathlib.Core.Path.{_≡_, sym, ap}
 use native.Mathlib.Omega.{arith}
 use lib.ListN.{length, take, length-take}
 use lib.Seq.{length-take-le}
-use Rattle.lines.specs.Appending.{Appended}
+use Rattle.text.specs.Appending.{Appended}
 
 pub told-inside : {text out out′ : List ℕ} {r : ℕ} → Appended 0 text out out′ r → r ≤ length out′
 told-inside {text} {out} {out′} {r} p = omega (arith, ap length (p .stands), p .end, length-take r out′)

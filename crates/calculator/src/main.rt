@@ -5,13 +5,13 @@ ghost use lib.ListN.{length, take};
 ghost use Rattle.calculator.specs.Sound.{Sound};
 ghost use Rattle.lines.specs.Kept.{Sound as KeptSound, StepReady, Stepped};
 use lines::Kept;
-use lines::fields::MOST_WORDS;
 use lines::keeping::TOWER_WORDS;
 use lines::keeping::nothing;
 use lines::lengths::ANSWER_WORDS;
 use lines::lengths::WORK_WORDS;
 use lines::reading::MOST_BYTES;
 use lines::steps::step;
+use text::fields::MOST_WORDS;
 
 // One byte more than a line may have, so that a longer one is seen.
 const LINE_BYTES: usize = MOST_BYTES + 1;

@@ -14,10 +14,10 @@ use Rattle.kernel.specs.GcdMeaning.{gcd-two-runs}
 use Rattle.kernel.specs.InverseMeaning.{inverse-two-runs}
 use Rattle.kernel.specs.ProductMeaning.{product-two-runs}
 use Rattle.kernel.specs.Refusals.{Said, done, factor, refused}
+use Rattle.text.specs.Text.{tab, decimal}
 use Rattle.lines.specs.Answers.{answerText, gcdText, divText, mulText, invText}
-use Rattle.lines.specs.Names.{tab, line-end, said-ok, said-rem, said-factor}
+use Rattle.lines.specs.Names.{line-end, said-ok, said-rem, said-factor}
 use Rattle.lines.specs.Printing.{elementText, slotText, factorText}
-use Rattle.lines.specs.Text.{decimal}
 
 module _ (name d : List ℕ) {w w′ : List ℕ} {f f′ : List ℤ} where
   said-same : (s : Said) → (s ≡ done → w ≡ w′) → ((l : ℕ) → s ≡ factor l → f ≡ f′) → answerText name d s w f ≡ answerText name d s w′ f′

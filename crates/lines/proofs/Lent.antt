@@ -5,7 +5,7 @@
 -- size-lent, one-lent                   == S_N, or 1
 -- element-lent                          == it is within the factor's store
 -- slot-full, slot-part, part-fits       == the longest slot;  slot-lent == it is within the answer's store, and a word longer than an element
-use Prim.Native.Nat.{ℕ, _+_, _*_, _/_, _<_, _≤_, min}
+use Prim.Native.Nat.{ℕ, _+_, _-_, _*_, _/_, _<_, _≤_, min}
 use mathlib.Core.Bool.{Bool, true, false, cond}
 use mathlib.Core.List.{List}
 use mathlib.Core.Logic.{inl}
@@ -33,7 +33,7 @@ use Rattle.kernel.specs.Promises.{SizesGiven}
 use Rattle.kernel.specs.Refusals.{done, Numbered, passed-of, first-of}
 use Rattle.kernel.specs.SequenceLaws.{done-factor, done-refused}
 use Rattle.kernel.specs.WorkMeaning.{work-answers}
-use Rattle.lines.specs.Steps.{lentElement, slotWords}
+use Rattle.lines.specs.Steps.{lentElement, answer-words, slotWords, most-element}
 
 module _ (n : ℤ) (e : List ℤ) where
   -- ---- N and the degrees are in range precisely where no number is given
@@ -80,23 +80,23 @@ module _ (n : ℤ) (e : List ℤ) where
   pub one-lent : ¬ DegreesIn n e → 1 ≡ lentElement n e
   one-lent h = let out = ne-eqb (shapeNumber n e) 0 (λ q. h (zero-range q)) in rw out refl
 
-  pub element-lent : (0 < lentElement n e) × (lentElement n e ≤ 2048)
+  pub element-lent : (0 < lentElement n e) × (lentElement n e ≤ most-element)
   element-lent = go (eqb (shapeNumber n e) 0) (λ t. eqb-true (shapeNumber n e) 0 t)
     where
-      go : (b : Bool) → (b ≡ true → shapeNumber n e ≡ 0) → (0 < cond b (sizeOf n e) 1) × (cond b (sizeOf n e) 1 ≤ 2048)
+      go : (b : Bool) → (b ≡ true → shapeNumber n e ≡ 0) → (0 < cond b (sizeOf n e) 1) × (cond b (sizeOf n e) 1 ≤ most-element)
       go true z = (omega (arith, size-pos (degreesOf e) (num n)), zero-range (z refl) .few)
       go false z = (omega arith, omega arith)
 
 -- ---- the words of a slot
 module _ (s : ℕ) where
-  pub slot-full : 256 < 4095 / s → 1 + 256 * s ≡ slotWords s
-  slot-full h = let few : min 256 (4095 / s) ≡ 256 = omega arith in rw few refl
+  pub slot-full : 256 < (answer-words - 1) / s → 1 + 256 * s ≡ slotWords s
+  slot-full h = let few : min 256 ((answer-words - 1) / s) ≡ 256 = omega arith in rw few refl
 
-  pub slot-part : 4095 / s ≤ 256 → 1 + 4095 / s * s ≡ slotWords s
-  slot-part h = let all : min 256 (4095 / s) ≡ 4095 / s = omega arith in rw all refl
+  pub slot-part : (answer-words - 1) / s ≤ 256 → 1 + (answer-words - 1) / s * s ≡ slotWords s
+  slot-part h = let all : min 256 ((answer-words - 1) / s) ≡ (answer-words - 1) / s = omega arith in rw all refl
 
-  pub part-fits : 4095 / s * s ≤ 4095
-  part-fits = div-mul-le-self 4095 s
+  pub part-fits : (answer-words - 1) / s * s ≤ answer-words - 1
+  part-fits = div-mul-le-self (answer-words - 1) s
 
-  pub slot-lent : slotWords s ≤ 4096
-  slot-lent = let few : min 256 (4095 / s) ≤ 4095 / s = omega arith in omega (arith, mul-le-mul-right s few, part-fits)
+  pub slot-lent : slotWords s ≤ answer-words
+  slot-lent = let few : min 256 ((answer-words - 1) / s) ≤ (answer-words - 1) / s = omega arith in omega (arith, mul-le-mul-right s few, part-fits)

@@ -1,11 +1,5 @@
-pub mod Words
-pub mod Numerals
-pub mod Appends
-pub mod Decimals
 pub mod Places
 pub mod Slotted
-pub mod Texts
-pub mod FieldWords
 pub mod LineSays
 pub mod Answering
 pub mod Done

@@ -14,19 +14,21 @@ use mathlib.Core.List.{List, [], _∷_, _++_}
 use Prim.Native.Nat.{ℕ, _+_, _-_, _<_, _≤_}
 use native.Mathlib.Numerals.{add-one}
 use native.Mathlib.Omega.{arith}
-use borrow.Author.Tests.{le-leb, lt-leb}
+use borrow.Author.Tests.{lt-leb}
 use lib.IntN.{ℤ, pos}
 use lib.ListN.{length, getD, take}
 use lib.Seq.{getD-take}
+use Rattle.text.specs.Fields.{fieldsOf, fieldsAt, wordsFrom, wordsOf, most-bytes, Ends, WordsRead}
+use Rattle.text.specs.Text.{tab, sameText}
+use Rattle.text.specs.Written.{words-nil}
+use Rattle.text.proofs.Texts.{part, part-end, same-true, one-field, two-fields}
 use Rattle.lines.specs.declared.Line.{Line}
 use Rattle.lines.specs.declared.Line.the-variants.{Unreadable, Field, Ext, First, Second, Gcd, Div, Mul, Inv}
-use Rattle.lines.specs.Names.{tab, name-field, name-ext, name-poly, name-a, name-b, name-gcd, name-div, name-mul, name-inv}
-use Rattle.lines.specs.Reading.{Meaning, unreadable, field, ext, first, second, most-bytes, fieldsOf, fieldsAt, wordsFrom, wordsOf}
+use Rattle.lines.specs.Names.{name-field, name-ext, name-poly, name-a, name-b, name-gcd, name-div, name-mul, name-inv}
+use Rattle.lines.specs.Reading.{Meaning, unreadable, field, ext, first, second}
 use Rattle.lines.specs.Reading.{fieldSays, extSays, namedSays, polySays, operationSays, withOne, withTwo, fieldsSay, meaningOf}
-use Rattle.lines.specs.Reading.{Ends, WordsRead, Says, OperationSaid}
-use Rattle.lines.specs.Text.{sameText}
-use Rattle.lines.proofs.FieldWords.{words-nil}
-use Rattle.lines.proofs.Texts.{part, part-end, same-true, one-field, two-fields}
+use Rattle.lines.specs.Reading.{Says, OperationSaid}
+use Rattle.lines.specs.Written.{named-first, short-line}
 
 -- ---- by how many words there are
 field-not-one : (l : List ℤ) → (length l ≡ 1 → ⊥) → fieldSays l ≡ unreadable
@@ -51,10 +53,6 @@ named-none : (a b : Bool) (l : List ℤ) → length l ≡ 0 → namedSays a b l 
 named-none a b [] h = refl
 named-none a b (x ∷ l) h = absurd (omega arith)
 
-named-first : (b : Bool) (l : List ℤ) → (length l ≡ 0 → ⊥) → namedSays true b l ≡ first l
-named-first b [] h = absurd (h refl)
-named-first b (x ∷ l) h = refl
-
 named-second : (l : List ℤ) → (length l ≡ 0 → ⊥) → namedSays false true l ≡ second l
 named-second [] h = absurd (h refl)
 named-second (x ∷ l) h = refl
@@ -66,7 +64,7 @@ named-other (x ∷ l) = refl
 unread : {w : List ℤ} {m : Meaning} → m ≡ unreadable → Says Unreadable w m
 unread e = record { carried = tt; means = sym e }
 
-module _ {w w′ : List ℤ} {n : ℕ} {fs : List (List ℕ)} (read : WordsRead w w′ n fs) where
+module _ {w′ : List ℤ} {n : ℕ} {fs : List (List ℕ)} (read : WordsRead w′ n fs) where
   counted : {m : ℕ} → (n ≡ m → ⊥) → length (wordsOf fs) ≡ m → ⊥
   counted h e = h (read .count ∙ e)
 
@@ -94,7 +92,7 @@ module _ {s : List ℕ} {from end : ℕ} (e : Ends s from end) where
   pub poly-alone : (w : List ℤ) → end ≡ length s → Says Unreadable w (polySays (fieldsAt s from))
   poly-alone w h = unread (ap polySays (e .last h) ∙ named-none _ _ (wordsOf []) (ap length (words-nil [])))
 
-  module _ (inside : end < length s) {w w′ : List ℤ} {n : ℕ} (read : WordsRead w w′ n (fieldsAt s (end + 1))) where
+  module _ (inside : end < length s) {w′ : List ℤ} {n : ℕ} (read : WordsRead w′ n (fieldsAt s (end + 1))) where
     named : {a b : Bool} → sameText (part s from end) name-a ≡ a → sameText (part s from end) name-b ≡ b
         → polySays (fieldsAt s from) ≡ namedSays a b (wordsOf (fieldsAt s (end + 1)))
     named p q = ap polySays (e .more inside) ∙ rw (p, q, add-one)
@@ -183,10 +181,6 @@ pub too-long : (s : List ℕ) (w : List ℤ) → most-bytes < length s → Says 
 unfolding meaningOf
 too-long s w h = unread (rw (lt-leb (length s) most-bytes h))
 
-short : (s : List ℕ) → length s ≤ most-bytes → meaningOf s ≡ fieldsSay (fieldsOf s)
-unfolding meaningOf
-short s h = rw (le-leb (length s) most-bytes h)
-
 all-same : (t u v : Bool) (m : Meaning) → cond t m (cond u m (cond v m m)) ≡ m
 all-same true u v m = refl
 all-same false true v m = refl
@@ -199,11 +193,11 @@ alone name = all-same (sameText name name-field) (sameText name name-ext) (sameT
 
 module _ {s : List ℕ} {end : ℕ} (e : Ends s 0 end) (few : length s ≤ most-bytes) where
   pub name-alone : (w : List ℤ) → end ≡ length s → Says Unreadable w (meaningOf s)
-  name-alone w h = unread (short s few ∙ ap fieldsSay (e .last h) ∙ alone s)
+  name-alone w h = unread (short-line s few ∙ ap fieldsSay (e .last h) ∙ alone s)
 
   module _ (inside : end < length s) where
     begun : meaningOf s ≡ fieldsSay (take end s ∷ fieldsAt s (end + 1))
-    begun = let whole : end - 0 ≡ end = omega arith in short s few ∙ ap fieldsSay (e .more inside) ∙ rw (whole, add-one end)
+    begun = let whole : end - 0 ≡ end = omega arith in short-line s few ∙ ap fieldsSay (e .more inside) ∙ rw (whole, add-one end)
 
     module _ {line : Line} {w : List ℤ} where
       pub after-field : sameText (take end s) name-field ≡ true → Says line w (fieldSays (wordsOf (fieldsAt s (end + 1)))) → Says line w (meaningOf s)

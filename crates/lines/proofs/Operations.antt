@@ -7,7 +7,7 @@
 use Prim.Native.Nat.{ℕ, zero, suc, _-_, _<_, _≤_}
 use mathlib.Core.Bool.{Bool, true, false, cond, not, _&&_}
 use mathlib.Core.List.{List}
-use mathlib.Core.Path.{_≡_, refl, sym, ap, ap₂, _∙_, subst}
+use mathlib.Core.Path.{_≡_, refl, sym, ap, ap₂, _∙_}
 use native.Mathlib.Omega.{arith}
 use borrow.Author.Tests.{lt-ltb, le-ltb, not-true, not-false}
 use lib.Dec.{ltb}
@@ -17,13 +17,13 @@ use lib.Seq.{length-take-le, take-all}
 use Rattle.tower.specs.Form.{seg}
 use Rattle.tower.specs.Store.{Put, put-seg}
 use Rattle.kernel.specs.SlotLaws.{zeros-long}
+use Rattle.text.specs.Fields.{most-words}
 use Rattle.lines.specs.declared.Kept.{Kept}
 use Rattle.lines.specs.Answers.{gcdText, divText, mulText, invText, out-bytes, LineReady}
-use Rattle.lines.specs.Appending.{Appended}
 use Rattle.lines.specs.Kept.{stateOf, Sound, WordStore, AnswerStore, FactorStore, WorkStore}
 use Rattle.lines.specs.Names.{name-gcd, name-div, name-mul, name-inv}
 use Rattle.lines.specs.Reading.{gcd, div, mul, inv}
-use Rattle.lines.specs.Steps.{lentElement, slotWords, lent, work-words, missingText, there, printed}
+use Rattle.lines.specs.Steps.{lentElement, answer-words, slotWords, most-element, lent, work-words, missingText, there, printed}
 use Rattle.lines.proofs.Lending.{gcd-same, div-same, mul-same, inv-same}
 use Rattle.lines.proofs.Lent.{element-lent, slot-lent}
 
@@ -45,17 +45,17 @@ pub part-ready : (n : ℕ) (x : List ℤ) (most : ℕ) (out : List ℕ) → n �
 part-ready n x most out h room = record { few = omega (arith, length-take n x); room = room }
 
 -- a copy of a part
-pub copy-is : (n : ℕ) (x : List ℤ) {w w′ : List ℤ} → length x ≡ 512 → n ≤ 512 → Put 0 (seg 0 n x) w w′ → take n w′ ≡ take n x
-copy-is n x h l put = put-seg n (sym (part-long n x 512 h l)) put
+pub copy-is : (n : ℕ) (x : List ℤ) {w w′ : List ℤ} → length x ≡ most-words → n ≤ most-words → Put 0 (seg 0 n x) w w′ → take n w′ ≡ take n x
+copy-is n x h l put = put-seg n (sym (part-long n x most-words h l)) put
 
 module _ (n : ℤ) (e : List ℤ) {s : ℕ} (es : s ≡ lentElement n e) where
-  pub element-few : (0 < s) × (s ≤ 2048)
+  pub element-few : (0 < s) × (s ≤ most-element)
   element-few = (omega (arith, element-lent n e .0), omega (arith, element-lent n e .1))
 
-  pub element-within : s ≤ 4096
+  pub element-within : s ≤ answer-words
   element-within = omega (arith, element-few .1)
 
-  pub slot-few : {l : ℕ} → l ≡ slotWords s → l ≤ 4096
+  pub slot-few : {l : ℕ} → l ≡ slotWords s → l ≤ answer-words
   slot-few el = omega (arith, slot-lent s)
 
 -- ---- what is printed
@@ -71,8 +71,8 @@ lacking : (t : Bool) (told lack : List ℕ) → t ≡ false → lack ≡ cond t 
 lacking t told lack q = ap (λ x. cond x told lack) (sym q)
 
 -- an operand is there precisely where it has words
-there-is : (n : ℕ) (x : List ℤ) → length x ≡ 512 → n ≤ 512 → there (take n x) ≡ ltb 0 n
-there-is n x h l = ap (ltb 0) (sym (part-long n x 512 h l))
+there-is : (n : ℕ) (x : List ℤ) → length x ≡ most-words → n ≤ most-words → there (take n x) ≡ ltb 0 n
+there-is n x h l = ap (ltb 0) (sym (part-long n x most-words h l))
 
 module _ (k : Kept) (tower a b : List ℤ) (sound : Sound k) (a-long : WordStore a) (b-long : WordStore b) where
   both-are : (there (take (k .a) a) && there (take (k .b) b)) ≡ (ltb 0 (k .a) && ltb 0 (k .b))
@@ -144,7 +144,7 @@ module _ (k : Kept) (tower a b : List ℤ) (sound : Sound k) (a-long : WordStore
       (same₃ (λ x y z. invText x y (k .degrees) z (take (k .a) a) (take s g) (take s f) v) ep en et
       ∙ inv-same _ _ _ _ _ _ _ _ _ _ _ (lent-long s g _ same (omega (arith, few))) (lent-long s f _ same (omega (arith, few))) (v-long ∙ sym (zeros-long work-words)))
     where
-      few : s ≤ 2048
+      few : s ≤ most-element
       few = element-few n (k .degrees) es .1
 
       same : s ≡ lentElement (pos (k .levels)) (k .degrees)

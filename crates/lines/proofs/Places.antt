@@ -18,11 +18,12 @@ use mir.Val.{SFits, toZ, ofZ}
 use mir.ValLaws.{toZ-ofZ}
 use Rattle.tower.specs.Ready.{Sized}
 use Rattle.tower.specs.Writing.{size, size-pos}
-use Rattle.lines.specs.Appending.{Appended}
+use Rattle.text.specs.Appending.{Appended}
+use Rattle.text.specs.Text.{wordText}
+use Rattle.text.specs.Written.{few-digits, twenty-digits}
+use Rattle.text.proofs.Appends.{nothing, then, retold}
 use Rattle.lines.specs.Printing.{degreeAt, degreeText, residueText, placeText, formText, DegreeTold, FormReady, FormPut}
-use Rattle.lines.specs.Text.{wordText}
-use Rattle.lines.specs.Written.{few-digits, twenty-digits, form-none, form-more}
-use Rattle.lines.proofs.Appends.{nothing, then, retold}
+use Rattle.lines.specs.Written.{form-none, form-more}
 
 -- ---- which words are degree words
 degree-own : (d : List ℕ) (i : ℕ) → degreeAt d (suc i) 0 ≡ true

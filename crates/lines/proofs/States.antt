@@ -20,15 +20,16 @@ use mir.Val.{SFits, toZ, ofZ}
 use mir.ValLaws.{toZ-ofZ}
 use Rattle.tower.specs.Form.{seg}
 use Rattle.tower.specs.Store.{Put, put-seg}
+use Rattle.text.specs.Fields.{most-words}
 use Rattle.lines.specs.declared.Kept.{Kept}
 use Rattle.lines.specs.declared.Line.{Line}
 use Rattle.lines.specs.declared.Line.the-variants.{Unreadable, Field, Ext, First, Second}
-use Rattle.lines.specs.Kept.{stateOf, Sound, Begins, ExtReady, Extended, Allowed, AllowedBy, KeepReady, KeptBy}
+use Rattle.lines.specs.Kept.{stateOf, Sound, Begins, ExtReady, Extended, Allowed, AllowedBy, KeepReady, KeptBy, tower-words}
 use Rattle.lines.specs.Reading.{meant, unreadable, ext}
 use Rattle.lines.specs.Steps.{State, allowed, after, nothing, fresh}
 
 -- ---- before the first line, and after `field`
-pub begun : Begins (record { field = false; p = pos 0; levels = 0; degrees = pos 0 ∷ pos 0 ∷ pos 0 ∷ pos 0 ∷ []; tower = 2048; a = 0; b = 0; told = 0 }) nothing
+pub begun : Begins (record { field = false; p = pos 0; levels = 0; degrees = pos 0 ∷ pos 0 ∷ pos 0 ∷ pos 0 ∷ []; tower = tower-words; a = 0; b = 0; told = 0 }) nothing
 begun = record {
   sound = record {
     levels-few = omega arith;
@@ -39,7 +40,7 @@ begun = record {
     degrees-four = refl;
     none = λ off. (refl, refl);
   };
-  state = λ tower a b h. rw (drop-of-length-le tower {i = 2048} (omega arith)) refl;
+  state = λ tower a b h. rw (drop-of-length-le tower {i = tower-words} (omega arith)) refl;
 }
 
 -- k with this field
@@ -113,7 +114,7 @@ abbrev pub counted : Kept → ℕ → ℕ → Kept
 counted k a b = record { field = k .field; p = k .p; levels = k .levels; degrees = k .degrees; tower = k .tower; a = a; b = b; told = k .told }
 
 -- with a field
-counted-sound : {k : Kept} (a b : ℕ) → Sound k → k .field ≡ true → a ≤ 512 → b ≤ 512 → Sound (counted k a b)
+counted-sound : {k : Kept} (a b : ℕ) → Sound k → k .field ≡ true → a ≤ most-words → b ≤ most-words → Sound (counted k a b)
 counted-sound a b s on few-a few-b = record {
   levels-few = s .levels-few;
   tower-inside = s .tower-inside;
@@ -126,13 +127,13 @@ counted-sound a b s on few-a few-b = record {
 
 module _ {line : Line} {k : Kept} {words tower a b : List ℤ} (ready : KeepReady line k words tower a b) where
   -- ---- there is room for what a line carries
-  ext-few : {n : ℕ} → line ≡ Ext n → (1 ≤ n) × (n ≤ 512)
+  ext-few : {n : ℕ} → line ≡ Ext n → (1 ≤ n) × (n ≤ most-words)
   ext-few h = rw h at (ready .carried)
 
-  first-few : {n : ℕ} → line ≡ First n → (1 ≤ n) × (n ≤ 512)
+  first-few : {n : ℕ} → line ≡ First n → (1 ≤ n) × (n ≤ most-words)
   first-few h = rw h at (ready .carried)
 
-  second-few : {n : ℕ} → line ≡ Second n → (1 ≤ n) × (n ≤ 512)
+  second-few : {n : ℕ} → line ≡ Second n → (1 ≤ n) × (n ≤ most-words)
   second-few h = rw h at (ready .carried)
 
   ext-level : {n : ℕ} → line ≡ Ext n → k .levels < 4
@@ -163,13 +164,13 @@ module _ {line : Line} {k : Kept} {words tower a b : List ℤ} (ready : KeepRead
   pub keeps-field : {r : Kept} {p : ℤ} → line ≡ Field p → SFits w64 p → Begins r (fresh true (toZ w64 (ofZ w64 p))) → KeptBy line k words tower a b r tower a b
   keeps-field {r} {p} h f g = rw h (record { sound = g .sound; state = g .state tower a b (ready .tower-long) ∙ ap (fresh true) (toZ-ofZ w64 p f) })
 
-  carries : {n : ℕ} → n ≤ 512 → length (seg 0 n words) ≡ n
+  carries : {n : ℕ} → n ≤ most-words → length (seg 0 n words) ≡ n
   carries {n} h = length-take-le n words (omega (arith, ready .words-long))
 
-  -- an `ext` of n words, written in front of the tower
-  pub keeps-ext : {n : ℕ} {r : Kept} {tower′ : List ℤ} → line ≡ Ext n → Put (k .tower - n) (seg 0 n words) tower tower′
-      → SFits w64 (getD words 0 (pos 0)) → Extended k (toZ w64 (ofZ w64 (getD words 0 (pos 0)))) n r → KeptBy line k words tower a b r tower′ a b
-  keeps-ext {n} {r} {tower′} h put f e = rw h (record { sound = e .sound; state = state })
+  -- an `ext` of n words, written in front of the tower; the degree is the first of them
+  pub keeps-ext : {n : ℕ} {w : ℤ} {r : Kept} {tower′ : List ℤ} → line ≡ Ext n → Put (k .tower - n) (seg 0 n words) tower tower′
+      → Extended k w n r → w ≡ getD words 0 (pos 0) → KeptBy line k words tower a b r tower′ a b
+  keeps-ext {n} {w} {r} {tower′} h put e first = rw h (record { sound = e .sound; state = state })
     where
       place : r .tower ≡ k .tower - n
       place = omega (arith, e .tower)
@@ -181,7 +182,7 @@ module _ {line : Line} {k : Kept} {words tower a b : List ℤ} (ready : KeepRead
       words-in = ap (λ i. drop i tower′) place ∙ drop-put n (carries (ext-few h .1)) put ∙ ap (λ i. take n words ++ drop i tower) behind
 
       degree : r .degrees ≡ set (k .degrees) (k .levels) (getD (take n words) 0 (pos 0))
-      degree = e .degrees ∙ ap (set (k .degrees) (k .levels)) (toZ-ofZ w64 _ f ∙ sym (getD-take n words 0 (pos 0) (ext-few h .0)))
+      degree = e .degrees ∙ ap (set (k .degrees) (k .levels)) (first ∙ sym (getD-take n words 0 (pos 0) (ext-few h .0)))
 
       state : stateOf r tower′ a b ≡ after (stateOf k tower a b) (ext (take n words))
       state = rw (e .field, e .p, e .levels, degree, words-in, e .a, e .b) refl

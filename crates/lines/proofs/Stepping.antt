@@ -8,9 +8,9 @@ use mathlib.Core.List.{List, []}
 use mathlib.Core.Path.{_≡_, refl, ap, _∙_, subst}
 use native.Mathlib.Omega.{arith}
 use lib.IntN.{ℤ}
+use Rattle.text.specs.Appending.{Appended}
 use Rattle.lines.specs.declared.Kept.{Kept}
 use Rattle.lines.specs.declared.Line.{Line}
-use Rattle.lines.specs.Appending.{Appended}
 use Rattle.lines.specs.Kept.{stateOf, Sound, AllowedBy, WordStore, TowerStore, AnswerStore, FactorStore, WorkStore, OutStore, KeepReady, KeptBy, TellReady, Told, Stepped}
 use Rattle.lines.specs.Reading.{Meaning, meaningOf, meant, Says}
 use Rattle.lines.specs.Steps.{allowed, after, printed}

@@ -10,13 +10,14 @@ use mathlib.Core.List.{List}
 use mathlib.Core.Path.{_≡_}
 use lib.IntN.{ℤ}
 use lib.ListN.{length, take, drop, set}
+use Rattle.text.specs.Appending.{Appended}
+use Rattle.text.specs.Fields.{most-words}
 use Rattle.lines.specs.declared.Kept.{Kept}
 use Rattle.lines.specs.declared.Line.{Line}
 use Rattle.lines.specs.declared.Line.the-variants.{Unreadable, Field, Ext, First, Second, Gcd, Div, Mul, Inv}
 use Rattle.lines.specs.Answers.{out-bytes}
-use Rattle.lines.specs.Appending.{Appended}
 use Rattle.lines.specs.Reading.{meaningOf, meant, Carried}
-use Rattle.lines.specs.Steps.{State, allowed, after, work-words, printed}
+use Rattle.lines.specs.Steps.{State, allowed, after, answer-words, most-element, work-words, printed}
 
 -- ---- what the program keeps: the tower's words fill their store from the end, a and b are the first words of theirs
 abbrev pub stateOf : Kept → (tower a b : List ℤ) → State
@@ -30,13 +31,17 @@ stateOf k tower a b = record {
   b = take (k .b) b;
 }
 
+-- the words of the store of a tower, which four lines can fill
+abbrev pub tower-words : ℕ
+tower-words = 2048
+
 -- "at most 512 words" a line, four levels at most
 pub record Sound (k : Kept) : Type 0 where
   pub levels-few : k .levels ≤ 4
-  pub tower-inside : k .tower ≤ 2048
-  pub tower-room : 2048 ≤ k .tower + 512 * k .levels
-  pub a-inside : k .a ≤ 512
-  pub b-inside : k .b ≤ 512
+  pub tower-inside : k .tower ≤ tower-words
+  pub tower-room : tower-words ≤ k .tower + most-words * k .levels
+  pub a-inside : k .a ≤ most-words
+  pub b-inside : k .b ≤ most-words
   pub degrees-four : length (k .degrees) ≡ 4
   -- without a field there is no operand
   pub none : k .field ≡ false → (k .a ≡ 0) × (k .b ≡ 0)
@@ -45,13 +50,13 @@ pub record Sound (k : Kept) : Type 0 where
 -- what is kept before the first line, and after `field` p
 pub record Begins (k : Kept) (s : State) : Type 0 where
   pub sound : Sound k
-  pub state : (tower a b : List ℤ) → length tower ≡ 2048 → stateOf k tower a b ≡ s
+  pub state : (tower a b : List ℤ) → length tower ≡ tower-words → stateOf k tower a b ≡ s
 
 -- an `ext` of n words needs a level and room
 pub record ExtReady (k : Kept) (n : ℕ) : Type 0 where
   pub sound : Sound k
   pub level : k .levels < 4
-  pub few : n ≤ 512
+  pub few : n ≤ most-words
 
 pub record Extended (k : Kept) (degree : ℤ) (n : ℕ) (r : Kept) : Type 0 where
   pub sound : Sound r
@@ -82,16 +87,16 @@ pub record AllowedBy (line : Line) (k : Kept) (r : Line) : Type 0 where
 
 -- ---- the lengths of the stores
 abbrev pub WordStore : List ℤ → Type 0
-WordStore w = length w ≡ 512
+WordStore w = length w ≡ most-words
 
 abbrev pub TowerStore : List ℤ → Type 0
-TowerStore w = length w ≡ 2048
+TowerStore w = length w ≡ tower-words
 
 abbrev pub AnswerStore : List ℤ → Type 0
-AnswerStore w = length w ≡ 4096
+AnswerStore w = length w ≡ answer-words
 
 abbrev pub FactorStore : List ℤ → Type 0
-FactorStore w = length w ≡ 2048
+FactorStore w = length w ≡ most-element
 
 abbrev pub WorkStore : List ℤ → Type 0
 WorkStore w = length w ≡ work-words

@@ -1,6 +1,4 @@
-pub mod Text
 pub mod Names
-pub mod Appending
 pub mod Reading
 pub mod ReadingFigures
 pub mod Printing

@@ -1,11 +1,9 @@
 -- The names and words of the calculator's lines, as bytes.
 use Prim.Native.Nat.{ℕ}
 use mathlib.Core.List.{List, [], _∷_}
+use Rattle.text.specs.Text.{tab}
 
--- "fields parted by tabs"; "its line end (byte 10)"
-abbrev pub tab : ℕ
-tab = 9
-
+-- "its line end (byte 10)"
 abbrev pub line-end : ℕ
 line-end = 10
 

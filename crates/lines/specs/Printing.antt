@@ -14,9 +14,8 @@ use lib.IntN.{ℤ, pos}
 use lib.ListN.{length, getD}
 use Rattle.tower.specs.Ready.{Sized}
 use Rattle.tower.specs.Writing.{size, degreeCount}
-use Rattle.lines.specs.Appending.{Appended}
-use Rattle.lines.specs.Names.{tab}
-use Rattle.lines.specs.Text.{wordText}
+use Rattle.text.specs.Appending.{Appended}
+use Rattle.text.specs.Text.{tab, wordText}
 
 -- the k-th word of an element of level i over the degrees d: its own degree word, or a word of one of its coefficients
 unfoldable pub degreeAt : List ℕ → ℕ → ℕ → Bool

@@ -1,35 +1,21 @@
 -- What a line says by itself, from its bytes.
 --
--- fieldsOf                  == the fields, parted at every tab
 -- Meaning                   == what a line says
--- wordsFrom, wordsOf        == the numbers of fields: "carries at most 512 words"
 -- meaningOf                 == what the bytes of a line say
 -- meant, Carried            == what the program's line says with the words of its store, and how many they are
--- Ends, WordsRead, Says, OperationSaid == what the program's functions give
-use Prim.Native.Nat.{ℕ, suc, _-_, _<_, _≤_}
+-- Says, OperationSaid       == what the program's functions give
+use Prim.Native.Nat.{ℕ, _≤_}
 use mathlib.Core.Bool.{Bool, true, false, cond}
-use mathlib.Core.List.{List, [], _∷_, _++_}
+use mathlib.Core.List.{List, [], _∷_}
 use mathlib.Core.Path.{_≡_}
-use lib.Dec.{leb, ltb, eqb}
+use lib.Dec.{leb}
 use lib.IntN.{ℤ}
-use lib.ListN.{length, take, drop}
+use lib.ListN.{length, take}
+use Rattle.text.specs.Fields.{fieldsOf, most-bytes, most-words, wordsOf}
+use Rattle.text.specs.Text.{sameText}
 use Rattle.lines.specs.declared.Line.{Line}
 use Rattle.lines.specs.declared.Line.the-variants.{Unreadable, Field, Ext, First, Second, Gcd, Div, Mul, Inv}
-use Rattle.lines.specs.declared.Number.{Number}
-use Rattle.lines.specs.declared.Number.the-variants.{Is, Not}
-use Rattle.lines.specs.Names.{tab, name-field, name-ext, name-poly, name-a, name-b, name-gcd, name-div, name-mul, name-inv}
-use Rattle.lines.specs.Text.{numberOf, sameText}
-
--- ---- fields
--- a byte in front of the first field
-abbrev pub before : ℕ → List (List ℕ) → List (List ℕ)
-before b [] = (b ∷ []) ∷ []
-before b (f ∷ fs) = (b ∷ f) ∷ fs
-
--- an empty field is a field
-unfoldable pub fieldsOf : List ℕ → List (List ℕ)
-fieldsOf [] = [] ∷ []
-fieldsOf (b ∷ s) = let rest = fieldsOf s in cond (eqb b tab) ([] ∷ rest) (before b rest)
+use Rattle.lines.specs.Names.{name-field, name-ext, name-poly, name-a, name-b, name-gcd, name-div, name-mul, name-inv}
 
 -- ---- what a line says
 pub data Meaning : Type 0 where
@@ -42,28 +28,6 @@ pub data Meaning : Type 0 where
   div : Meaning
   mul : Meaning
   inv : Meaning
-
--- "a line .. carries at most 512 words"
-abbrev pub most-words : ℕ
-most-words = 512
-
--- "A number is an optional minus and 1 to 10 digits"
-abbrev pub most-digits : ℕ
-most-digits = 10
-
--- a number more behind those in w, and then the rest
-abbrev pub wordThen : Number → List ℤ → (List ℤ → List ℤ) → List ℤ
-wordThen (Is x) w rest = cond (ltb (length w) most-words) (rest (w ++ (x ∷ []))) []
-wordThen Not w rest = []
-
--- the numbers of the fields behind those in w; none where a field is no number, or there are too many
-unfoldable pub wordsFrom : List ℤ → List (List ℕ) → List ℤ
-wordsFrom w [] = w
-wordsFrom w (f ∷ fs) = wordThen (numberOf most-digits f) w (λ more. wordsFrom more fs)
-
--- all of them
-abbrev pub wordsOf : List (List ℕ) → List ℤ
-wordsOf fs = wordsFrom [] fs
 
 -- ---- the lines
 -- `field` p
@@ -108,9 +72,6 @@ fieldsSay (name ∷ fs) =
     (cond (sameText name name-ext) (extSays (wordsOf fs)) (cond (sameText name name-poly) (polySays fs) (operationSays name fs)))
 
 -- "a line has at most 8,192 bytes, its line end (byte 10) not counted"
-abbrev pub most-bytes : ℕ
-most-bytes = 8192
-
 unfoldable pub meaningOf : List ℕ → Meaning
 meaningOf s = cond (leb (length s) most-bytes) (fieldsSay (fieldsOf s)) unreadable
 
@@ -139,23 +100,6 @@ Carried Mul = Unit {0}
 Carried Inv = Unit {0}
 
 -- ---- the parts of the program
--- the fields from the place `from` of a line on
-abbrev pub fieldsAt : List ℕ → ℕ → List (List ℕ)
-fieldsAt s from = fieldsOf (drop from s)
-
--- the field that begins at `from` ends at r: with the line, or in front of a tab and the other fields
-pub record Ends (s : List ℕ) (from r : ℕ) : Type 0 where
-  pub low : from ≤ r
-  pub high : r ≤ length s
-  pub last : r ≡ length s → fieldsAt s from ≡ drop from s ∷ []
-  pub more : r < length s → fieldsAt s from ≡ take (r - from) (drop from s) ∷ fieldsAt s (suc r)
-
--- the words of fields are the first r of a store of at least 512
-pub record WordsRead (w w′ : List ℤ) (r : ℕ) (fs : List (List ℕ)) : Type 0 where
-  pub few : r ≤ most-words
-  pub words : take r w′ ≡ wordsOf fs
-  pub count : r ≡ length (wordsOf fs)
-
 -- a line of the program means this
 pub record Says (line : Line) (w : List ℤ) (m : Meaning) : Type 0 where
   pub carried : Carried line

@@ -10,8 +10,9 @@ use mathlib.Core.List.{List, [], _∷_, _++_}
 use mathlib.Core.Path.{_≡_, refl}
 use lib.IntN.{ℤ, pos, negsuc}
 use lib.ListN.{replicate}
-use Rattle.lines.specs.Reading.{Meaning, unreadable, field, ext, first, second, gcd, div, mul, inv, fieldsOf, wordsFrom, meaningOf}
-use Rattle.lines.specs.Text.{numberOf, magnitudeOf, digitsOf}
+use Rattle.text.specs.Fields.{fieldsOf, wordsFrom}
+use Rattle.text.specs.Text.{numberOf, magnitudeOf, digitsOf}
+use Rattle.lines.specs.Reading.{Meaning, unreadable, field, ext, first, second, gcd, div, mul, inv, meaningOf}
 
 -- a quoted text as bytes
 abbrev pub bytes : String → List ℕ

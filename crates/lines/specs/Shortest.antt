@@ -29,9 +29,11 @@ use Rattle.kernel.specs.Meaning.{InRange, DegreesIn}
 use Rattle.kernel.specs.SlotLaws.{held-below, held-top, held-low, held-few, count-slot, slot-holds}
 use Rattle.kernel.specs.SlotMeaning.{Room, room-iff, room-count}
 use Rattle.kernel.specs.Slots.{polynomialOf, coefficientsIn}
+use Rattle.text.specs.Fields.{most-words}
+use Rattle.text.specs.Written.{Short, AllShort}
 use Rattle.lines.specs.Printing.{placeText, degreeAt, formText, shortest, slotText}
-use Rattle.lines.specs.Reading.{first, most-bytes, most-words, meaningOf}
-use Rattle.lines.specs.Written.{Short, AllShort, polyLine, form-none, form-more, form-again}
+use Rattle.lines.specs.Reading.{first, meaningOf}
+use Rattle.lines.specs.Written.{polyLine, form-none, form-more, form-again}
 
 pub record SlotIn (p n : ℤ) (e x : List ℤ) : Type 0 where
   pub long : T (lengthOk n e x)
@@ -209,8 +211,8 @@ module _ (p n : ℤ) (e x : List ℤ) (r : InRange p n e) (s : SlotIn p n e x) w
       rw (first-words p n e h x s)
       (short-slot (num p) (p-positive p h) (p-narrow p h) (degreesOf e) (num n) each (max 1 (degreeCount x)) (omega (arith, few, count, most .few)) _)
 
-  -- a printed slot of at most 512 words, behind `poly` and a in a line that is short enough, is read as the shortest slot
-  pub slot-again : shortest (degreesOf e) (num n) x ≤ most-words → length (polyLine (slotText (degreesOf e) (num n) x)) ≤ most-bytes
+  -- a printed slot of at most 512 words, behind `poly` and a, is read as the shortest slot
+  pub slot-again : shortest (degreesOf e) (num n) x ≤ most-words
       → meaningOf (polyLine (slotText (degreesOf e) (num n) x)) ≡ first (take (shortest (degreesOf e) (num n) x) x)
-  slot-again few bytes =
-      form-again (degreesOf e) (suc (num n)) x (shortest (degreesOf e) (num n) x) (shortest-inside p n e (r .modulus) x s) (omega arith) few shorts bytes
+  slot-again few =
+      form-again (degreesOf e) (suc (num n)) x (shortest (degreesOf e) (num n) x) (shortest-inside p n e (r .modulus) x s) (omega arith) few shorts

@@ -3,10 +3,10 @@
 -- State, nothing              == what is kept between lines
 -- allowed                     == a line that what is kept does not allow is unreadable
 -- after                       == what is kept after a line
--- lentElement, lentSlot, lent == the lists that an operation lends
+-- lentElement, slotWords, lent == the lists that an operation lends
 -- printed                     == what is printed for a line
 -- linesOf, run, answers       == the lines of an input, and what is printed for them
-use Prim.Native.Nat.{ℕ, suc, _+_, _*_, _/_, min}
+use Prim.Native.Nat.{ℕ, suc, _+_, _-_, _*_, _/_, min}
 use mathlib.Core.Bool.{Bool, true, false, cond, _&&_}
 use mathlib.Core.List.{List, [], _∷_, _++_}
 use lib.Dec.{eqb, ltb}
@@ -14,10 +14,11 @@ use lib.IntN.{ℤ, pos}
 use lib.ListN.{length, getD, set}
 use Rattle.tower.specs.Form.{copies}
 use Rattle.kernel.specs.Calls.{sizeOf, shapeNumber}
+use Rattle.text.specs.Fields.{before}
+use Rattle.text.specs.Text.{tab, decimal}
 use Rattle.lines.specs.Answers.{gcdText, divText, mulText, invText}
-use Rattle.lines.specs.Names.{tab, line-end, name-gcd, name-div, name-mul, name-inv, said-missing, name-unreadable}
+use Rattle.lines.specs.Names.{line-end, name-gcd, name-div, name-mul, name-inv, said-missing, name-unreadable}
 use Rattle.lines.specs.Reading.{Meaning, unreadable, field, ext, first, second, gcd, div, mul, inv, meaningOf}
-use Rattle.lines.specs.Text.{decimal}
 
 -- a field and its p, the levels with their degrees and the tower's words, a and b; a list of no words is none
 pub record State : Type 0 where
@@ -77,8 +78,15 @@ abbrev pub lentElement : ℤ → List ℤ → ℕ
 lentElement n e = cond (eqb (shapeNumber n e) 0) (sizeOf n e) 1
 
 -- "Each answer slot lent is the longest allowed one within 4,096 words"
+abbrev pub answer-words : ℕ
+answer-words = 4096
+
 abbrev pub slotWords : ℕ → ℕ
-slotWords s = 1 + min 256 (4095 / s) * s
+slotWords s = 1 + min 256 ((answer-words - 1) / s) * s
+
+-- no element that is allowed has more words
+abbrev pub most-element : ℕ
+most-element = 2048
 
 -- a list of n words
 abbrev pub lent : ℕ → List ℤ
@@ -122,15 +130,10 @@ printed s number inv =
     cond (there (s .a)) (invText (s .p) n (s .degrees) (s .tower) (s .a) (lent l) (lent l) (lent work-words)) (missingText name-inv)
 
 -- ---- a whole input
--- a byte in front of the first line
-abbrev pub onward : ℕ → List (List ℕ) → List (List ℕ)
-onward b [] = (b ∷ []) ∷ []
-onward b (l ∷ ls) = (b ∷ l) ∷ ls
-
 -- "a last line needs no line end": what stands behind the last line end is a line unless it is empty
 unfoldable pub linesOf : List ℕ → List (List ℕ)
 linesOf [] = []
-linesOf (b ∷ s) = let rest = linesOf s in cond (eqb b line-end) ([] ∷ rest) (onward b rest)
+linesOf (b ∷ s) = let rest = linesOf s in cond (eqb b line-end) ([] ∷ rest) (before b rest)
 
 -- the answers to lines, the first of which has a number
 unfoldable pub run : State → ℕ → List (List ℕ) → List ℕ

@@ -24,12 +24,13 @@ use Rattle.kernel.specs.Products.{productNumber, productWords}
 use Rattle.kernel.specs.Divisions.{divisionNumber, remainderWords, quotientWords}
 use Rattle.kernel.specs.Inverses.{inverseNumber, inverseWords}
 use Rattle.kernel.specs.Gcds.{gcdNumber, gcdWords}
+use Rattle.text.specs.Fields.{fieldsOf, wordsFrom}
+use Rattle.text.specs.Text.{numberOf, magnitudeOf, digitsOf, decimalBy}
 use Rattle.lines.specs.Names.{line-end}
 use Rattle.lines.specs.Printing.{degreeAt, formText}
-use Rattle.lines.specs.Reading.{fieldsOf, wordsFrom, meaningOf}
+use Rattle.lines.specs.Reading.{meaningOf}
 use Rattle.lines.specs.ReadingFigures.{bytes}
 use Rattle.lines.specs.Steps.{linesOf, run, answers}
-use Rattle.lines.specs.Text.{numberOf, magnitudeOf, digitsOf, decimalBy}
 
 -- lines as bytes, a line end behind each
 abbrev pub text : List String → List ℕ

@@ -3,9 +3,9 @@ ghost use mathlib.Core.List.{List};
 ghost use Prim.Native.Nat.{ℕ, _+_, _≤_};
 ghost use lib.ListN.{length};
 ghost use Rattle.tower.specs.Ready.{Sized};
-ghost use Rattle.lines.specs.Appending.{Appended};
+ghost use Rattle.text.specs.Appending.{Appended};
 ghost use Rattle.lines.specs.Printing.{residueText, degreeText, placeText, DegreeTold, FormReady, FormPut};
-use super::bytes::append_word;
+use text::bytes::append_word;
 use tower::sizes::size_at;
 
 // Whether the k-th word of an element of level i is a degree word. Slots are printed as an element of one level more, which has any number of coefficients.

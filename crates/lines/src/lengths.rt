@@ -1,7 +1,7 @@
 // The lengths of the lists that an operation lends to the kernel.
 ghost use mathlib.Core.Path.{_≡_};
 ghost use Prim.Native.Nat.{_<_, _≤_};
-ghost use Rattle.lines.specs.Steps.{lentElement, slotWords};
+ghost use Rattle.lines.specs.Steps.{lentElement, slotWords, most-element};
 use kernel::Answer;
 use tower::sizes::degrees;
 use tower::sizes::size_at;
@@ -29,7 +29,7 @@ pub fn element_words(n: i64, e: [i64; 4]) -> usize
 
 // The words of the longest slot that is allowed within ANSWER_WORDS, of elements of s words.
 pub fn slot_words(s: usize) -> usize
-    requires { ⌜ (0 < s) × (s ≤ 2048) ⌝ }
+    requires { ⌜ (0 < s) × (s ≤ most-element) ⌝ }
     ensures { λ r. ⌜ r ≡ slotWords s ⌝ }
 {
     let k = (ANSWER_WORDS - 1) / s;

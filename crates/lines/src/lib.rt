@@ -1,26 +1,12 @@
 // The calculator's lines, on lists of bytes and words: what a line says, what is kept between lines, and what is printed. The program `calculator` only moves
 // bytes. What a line comes to is in specs/Steps.antt.
 pub mod answers;
-pub mod bytes;
-pub mod fields;
 pub mod form;
 pub mod keeping;
 pub mod lengths;
-pub mod numbers;
+pub mod printing;
 pub mod reading;
 pub mod steps;
-
-// The number that digits hold.
-pub enum Digits {
-    Value(u64),
-    Wrong,
-}
-
-// A field read as a number.
-pub enum Number {
-    Is(i64),
-    Not,
-}
 
 // What a line says: of ext, poly a and poly b how many words they carry, which stand in a store.
 pub enum Line {

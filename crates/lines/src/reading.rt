@@ -1,18 +1,19 @@
 // What a line says.
 ghost use Prim.Native.Nat.{_≤_};
 ghost use lib.ListN.{length};
-ghost use Rattle.lines.specs.Reading.{fieldsOf, fieldsAt, wordsOf, fieldSays, extSays, polySays, meaningOf, Says, OperationSaid};
-use super::fields::field_end;
-use super::fields::read_words;
-use super::fields::same;
+ghost use Rattle.text.specs.Fields.{fieldsOf, fieldsAt, wordsOf, most-bytes, most-words};
+ghost use Rattle.lines.specs.Reading.{fieldSays, extSays, polySays, meaningOf, Says, OperationSaid};
 use crate::Line;
+use text::fields::field_end;
+use text::fields::read_words;
+use text::fields::same;
 
 // The most bytes of a line, its line end not counted.
 pub const MOST_BYTES: usize = 8192;
 
 // `field` and p.
 pub fn field_line(text: &[u8], from: usize, words: &mut [i64]) -> Line
-    requires { ⌜ ((from ≤ length (now text)) × (length (now text) ≤ 8192)) × (512 ≤ length (now words)) ⌝ }
+    requires { ⌜ ((from ≤ length (now text)) × (length (now text) ≤ most-bytes)) × (most-words ≤ length (now words)) ⌝ }
     ensures { λ r. ⌜ Says r (now (words .exit)) (fieldSays (wordsOf (fieldsAt (now (text .entry)) from))) ⌝ }
 {
     if read_words(text, from, words) != 1 {
@@ -23,7 +24,7 @@ pub fn field_line(text: &[u8], from: usize, words: &mut [i64]) -> Line
 
 // `ext` and words.
 pub fn ext_line(text: &[u8], from: usize, words: &mut [i64]) -> Line
-    requires { ⌜ ((from ≤ length (now text)) × (length (now text) ≤ 8192)) × (512 ≤ length (now words)) ⌝ }
+    requires { ⌜ ((from ≤ length (now text)) × (length (now text) ≤ most-bytes)) × (most-words ≤ length (now words)) ⌝ }
     ensures { λ r. ⌜ Says r (now (words .exit)) (extSays (wordsOf (fieldsAt (now (text .entry)) from))) ⌝ }
 {
     let n = read_words(text, from, words);
@@ -35,7 +36,7 @@ pub fn ext_line(text: &[u8], from: usize, words: &mut [i64]) -> Line
 
 // `poly`, a or b, and words.
 pub fn poly_line(text: &[u8], from: usize, words: &mut [i64]) -> Line
-    requires { ⌜ ((from ≤ length (now text)) × (length (now text) ≤ 8192)) × (512 ≤ length (now words)) ⌝ }
+    requires { ⌜ ((from ≤ length (now text)) × (length (now text) ≤ most-bytes)) × (most-words ≤ length (now words)) ⌝ }
     ensures { λ r. ⌜ Says r (now (words .exit)) (polySays (fieldsAt (now (text .entry)) from)) ⌝ }
 {
     let end = field_end(text, from);
@@ -83,7 +84,7 @@ pub fn operation_line(name: &[u8], operands: &[u8]) -> Line
 
 // What the bytes of a line say; the words that it carries are put into words.
 pub fn read_line(text: &[u8], words: &mut [i64]) -> Line
-    requires { ⌜ 512 ≤ length (now words) ⌝ }
+    requires { ⌜ most-words ≤ length (now words) ⌝ }
     ensures { λ r. ⌜ Says r (now (words .exit)) (meaningOf (now (text .entry))) ⌝ }
 {
     if MOST_BYTES < text.len() {

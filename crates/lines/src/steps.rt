@@ -2,26 +2,27 @@
 ghost use Prim.Native.Nat.{_+_, _≤_};
 ghost use mathlib.Core.Path.{_≡_};
 ghost use mathlib.Core.Bool.{_&&_};
-ghost use mathlib.Core.List.{[], _∷_, _++_};
+ghost use mathlib.Core.List.{[]};
 ghost use lib.Dec.{ltb};
 ghost use lib.ListN.{length};
-ghost use Rattle.lines.specs.Appending.{Appended};
+ghost use Rattle.text.specs.Appending.{Appended};
 ghost use Rattle.lines.specs.Kept.{stateOf, Sound, TowerStore, WordStore, AnswerStore, FactorStore, WorkStore, OutStore, TellReady, Told, StepReady, Stepped};
 ghost use Rattle.lines.specs.Reading.{gcd, div, mul, inv, unreadable};
-ghost use Rattle.lines.specs.Steps.{State, nothing, missingText, printed};
+ghost use Rattle.lines.specs.Steps.{nothing, missingText, printed};
 use super::answers::div;
 use super::answers::gcd;
 use super::answers::inv;
 use super::answers::mul;
-use super::bytes::append;
-use super::bytes::append_number;
 use super::keeping::allowed;
 use super::keeping::keep;
 use super::lengths::element_words;
 use super::lengths::slot_words;
+use super::printing::end_number;
+use super::printing::opened;
 use super::reading::read_line;
 use crate::Kept;
 use crate::Line;
+use text::bytes::append;
 use tower::store::copy_in;
 
 // The line of an operation that lacks a field or an operand.
@@ -29,8 +30,7 @@ pub fn missing(out: &mut [u8], name: &[u8]) -> usize
     requires { ⌜ length (now name) + 9 ≤ length (now out) ⌝ }
     ensures { λ r. ⌜ Appended 0 (missingText (now (name .entry))) (now (out .entry)) (now (out .exit)) r ⌝ }
 {
-    let named = append(out, 0, name);
-    append(out, named, b"\tmissing\n")
+    opened(out, name, b"\tmissing\n")
 }
 
 // The line of a line that is unreadable.
@@ -39,8 +39,7 @@ pub fn unreadable(out: &mut [u8], number: u64) -> usize
     ensures { λ r. ⌜ Appended 0 (printed nothing number unreadable) (now (out .entry)) (now (out .exit)) r ⌝ }
 {
     let said = append(out, 0, b"unreadable");
-    let told = append_number(out, said, number);
-    append(out, told, b"\n")
+    end_number(out, said, number)
 }
 
 // a and b are there; without a field neither is.

@@ -1,3 +1,1 @@
 pub mod Words
-pub mod Numbers
-pub mod Bytes

@@ -14,9 +14,9 @@ mod remainders;
 
 ghost use Rattle.vectors.specs.Sound.{Sound};
 use crate::field::Call;
-use crate::field::Number;
 use crate::output::OUTPUT_BYTES;
 use crate::output::Output;
+use text::Number;
 
 // The most numbers of a line. A line that has more asks for no call.
 const MOST_NUMBERS: usize = 131072;

@@ -2,12 +2,10 @@
 //
 // Each function takes how many bytes of the store are held and gives how many are held after it. A
 // count above the store's length, which none of them gives, is taken as its length, so callers have
-// nothing to show. No contract can say what is written; append says which bytes it adds.
-ghost use mathlib.Core.Path.{_≡_};
-ghost use mathlib.Core.List.{_++_};
-ghost use Prim.Native.Nat.{_+_, _≤_};
-ghost use lib.ListN.{length, take};
+// nothing to show. No contract can say what is written.
+ghost use Prim.Native.Nat.{_≤_};
 use residue::magnitude;
+use text::bytes::append;
 
 // How many bytes the store has.
 pub const OUTPUT_BYTES: usize = 65536;
@@ -25,21 +23,6 @@ fn within(held: usize, most: usize) -> usize
 pub fn flush(out: &[u8], held: usize) {
     let n = within(held, out.len());
     io::write_all(libc::STDOUT_FILENO, &out[..n]);
-}
-
-// The text behind the bytes that are held.
-fn append(out: &mut [u8], held: usize, text: &[u8]) -> usize
-    requires { ⌜ held + length (now text) ≤ length (now out) ⌝ }
-    ensures { λ r. ⌜ r ≡ held + length (now (text .entry)) ⌝ }
-    ensures { λ r. ⌜ take r (now (out .exit)) ≡ take held (now (out .entry)) ++ now (text .entry) ⌝ }
-{
-    let n = text.len();
-    let mut i: usize = 0;
-    while i < n {
-        out[held + i] = text[i];
-        i += 1;
-    }
-    held + n
 }
 
 // The text, after what is held was written where there is no room for both.

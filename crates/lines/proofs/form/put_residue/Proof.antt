@@ -2,8 +2,8 @@
 use mathlib.Core.Path.{ap}
 use mir.Syntax.{w64}
 use mir.ValLaws.{toZ-ofZ}
+use Rattle.text.proofs.Appends.{retold}
 use Rattle.lines.specs.Printing.{residueText}
-use Rattle.lines.proofs.Appends.{retold}
 use borrow.Author.Needs.{needs}
 use Rattle.lines.proofs.form.put_residue.Statement.{statement}
 use Rattle.lines.proofs.form.put_residue.Tie as tie

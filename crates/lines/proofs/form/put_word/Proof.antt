@@ -1,5 +1,5 @@
 -- `lines::form::put_word` meets its contract, by what the word is. Assumes nothing.
-use Rattle.lines.proofs.Appends.{retold}
+use Rattle.text.proofs.Appends.{retold}
 use Rattle.lines.proofs.Places.{degree-place, residue-place}
 use borrow.Author.Needs.{needs}
 use Rattle.lines.proofs.form.put_word.Statement.{statement}

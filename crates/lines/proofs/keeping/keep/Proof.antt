@@ -1,5 +1,7 @@
 -- `lines::keeping::keep` meets its contract, by a law for each line. Assumes nothing.
 use mathlib.Core.Path.{refl}
+use mir.Syntax.{w64}
+use mir.ValLaws.{toZ-ofZ}
 use Rattle.lines.proofs.States.{ext-room, ext-inside, ext-ready, first-inside, second-inside, keeps-field, keeps-ext, keeps-first, keeps-second, keeps-same}
 use borrow.Author.Needs.{needs}
 use Rattle.lines.proofs.keeping.keep.Statement.{statement}
@@ -68,7 +70,8 @@ same-length c = search needs
 returns-2 : tie.Need-returns-2
 returns-2 c =
     let s = c .before .before .before .before .before .before .before .before .before in
-    keeps-ext (s .pre) (c .before .before .before .before .before .before .before .line2 .given .1) (c .before .before .before .copy-in .ensures) (search needs) (c .extended .ensures)
+    keeps-ext (s .pre) (c .before .before .before .before .before .before .before .line2 .given .1) (c .before .before .before .copy-in .ensures)
+    (c .extended .ensures) (toZ-ofZ w64 _ (search needs))
 
 same-length-2 : tie.Need-same-length-2
 same-length-2 c = search needs

@@ -1,25 +1,25 @@
--- `lines::steps::missing` meets its contract: its texts stand one behind the other. Assumes nothing.
-use Rattle.lines.proofs.Appends.{then}
+-- `lines::steps::missing` meets its contract: what is said behind the name. Assumes nothing.
 use borrow.Author.Needs.{needs}
 use Rattle.lines.proofs.steps.missing.Statement.{statement}
 use Rattle.lines.proofs.steps.missing.Tie as tie
 
-append-requires : tie.Need-append-requires
-append-requires c κs = search needs
+slice-aggregate-opened : tie.Need-slice-aggregate-opened
+slice-aggregate-opened c = search needs
 
-slice-aggregate-append : tie.Need-slice-aggregate-append
-slice-aggregate-append c = search needs
-
-append-requires-2 : tie.Need-append-requires-2
-append-requires-2 c κs = search needs
+opened-requires : tie.Need-opened-requires
+opened-requires c κs = search needs
 
 same-length : tie.Need-same-length
 same-length c = search needs
 
 returns : tie.Need-returns
-returns c = then (c .before .before .before .before .before .before .before .append .ensures) (c .before .before .append2 .ensures)
+returns c = c .before .before .opened .ensures
 
 pub missing-spec : {M : Type 1} → statement M
 missing-spec =
     tie.close
-    (tie.spec append-requires slice-aggregate-append append-requires-2 same-length returns)
+    (tie.spec
+    slice-aggregate-opened
+    opened-requires
+    same-length
+    returns)

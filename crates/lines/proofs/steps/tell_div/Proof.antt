@@ -3,7 +3,9 @@ use mathlib.Core.Path.{_∙_}
 use native.Mathlib.Omega.{arith}
 use mir.Syntax.{w64}
 use mir.ValLaws.{toZ-ofZ}
-use Rattle.lines.proofs.Appends.{retold}
+use Rattle.text.proofs.Appends.{retold}
+use Rattle.text.specs.Fields.{most-words}
+use Rattle.lines.specs.Steps.{answer-words}
 use Rattle.lines.proofs.Operations.{part-long, rest-is, part-ready, copy-is, element-few, slot-few, div-missing, div-told}
 use borrow.Author.Needs.{needs}
 use Rattle.lines.proofs.steps.tell_div.Statement.{statement}
@@ -63,12 +65,12 @@ slice-aggregate-div : tie.Need-slice-aggregate-div
 slice-aggregate-div c =
     let s = c .before .before .before .before .before .before .before .before .before .before .before .before in
     let copy-in = c .before .before .before .copy-in in
-    part-long _ _ 512 (copy-in .ensures .kept .long ∙ s .pre .1 .1 .1 .1 .1 .0) (s .pre .0 .a-inside)
+    part-long _ _ most-words (copy-in .ensures .kept .long ∙ s .pre .1 .1 .1 .1 .1 .0) (s .pre .0 .a-inside)
 
 slice-aggregate-div-2 : tie.Need-slice-aggregate-div-2
 slice-aggregate-div-2 c =
     let s = c .before .before .before .before .before .before .before .before .before .before .before .before .before in
-    part-long _ _ 512 (s .pre .1 .1 .1 .0) (s .pre .0 .b-inside)
+    part-long _ _ most-words (s .pre .1 .1 .1 .0) (s .pre .0 .b-inside)
 
 slice-relend-prefix-div-2 : tie.Need-slice-relend-prefix-div-2
 slice-relend-prefix-div-2 c =
@@ -82,15 +84,15 @@ slice-aggregate-div-3 c =
     let s = c .before .before .before .before .before .before .before .before .before .before .before .before .before .before in
     let element-words = c .before .before .before .before .before .before .before .before .element-words in
     let slot-words = c .before .before .before .before .before .before .before .slot-words in
-    part-long _ _ 4096 (s .pre .1 .1 .1 .1 .0) (slot-few _ _ (element-words .ensures) (slot-words .ensures))
+    part-long _ _ answer-words (s .pre .1 .1 .1 .1 .0) (slot-few _ _ (element-words .ensures) (slot-words .ensures))
 
 div-requires : tie.Need-div-requires
 div-requires c κs =
     let s = c .before .before .before .before .before .before .before .before .before .before .before .before .before .before .before .before .before in
     let element-words = c .before .before .before .before .before .before .before .before .before .before .before .element-words in
     let slot-words = c .before .before .before .before .before .before .before .before .before .before .slot-words in (
-      part-ready _ _ 4096 _ (slot-few _ _ (element-words .ensures) (slot-words .ensures)) (s .pre .1 .1 .1 .1 .1 .1 .1),
-      part-ready _ _ 512 _ (s .pre .0 .a-inside) (s .pre .1 .1 .1 .1 .1 .1 .1),
+      part-ready _ _ answer-words _ (slot-few _ _ (element-words .ensures) (slot-words .ensures)) (s .pre .1 .1 .1 .1 .1 .1 .1),
+      part-ready _ _ most-words _ (s .pre .0 .a-inside) (s .pre .1 .1 .1 .1 .1 .1 .1),
     )
 
 same-length-2 : tie.Need-same-length-2

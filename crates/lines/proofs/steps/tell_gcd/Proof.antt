@@ -3,7 +3,9 @@ use mathlib.Core.Path.{_∙_}
 use native.Mathlib.Omega.{arith}
 use mir.Syntax.{w64}
 use mir.ValLaws.{toZ-ofZ}
-use Rattle.lines.proofs.Appends.{retold}
+use Rattle.text.proofs.Appends.{retold}
+use Rattle.text.specs.Fields.{most-words}
+use Rattle.lines.specs.Steps.{answer-words, most-element}
 use Rattle.lines.proofs.Operations.{part-long, rest-is, part-ready, element-few, slot-few, gcd-missing, gcd-told}
 use borrow.Author.Needs.{needs}
 use Rattle.lines.proofs.steps.tell_gcd.Statement.{statement}
@@ -54,12 +56,12 @@ part-gcd-end c = search needs
 slice-aggregate-gcd : tie.Need-slice-aggregate-gcd
 slice-aggregate-gcd c =
     let s = c .before .before .before .before .before .before .before .before .before in
-    part-long _ _ 512 (s .pre .1 .1 .0) (s .pre .0 .a-inside)
+    part-long _ _ most-words (s .pre .1 .1 .0) (s .pre .0 .a-inside)
 
 slice-aggregate-gcd-2 : tie.Need-slice-aggregate-gcd-2
 slice-aggregate-gcd-2 c =
     let s = c .before .before .before .before .before .before .before .before .before .before in
-    part-long _ _ 512 (s .pre .1 .1 .1 .0) (s .pre .0 .b-inside)
+    part-long _ _ most-words (s .pre .1 .1 .1 .0) (s .pre .0 .b-inside)
 
 slice-relend-prefix-gcd : tie.Need-slice-relend-prefix-gcd
 slice-relend-prefix-gcd c =
@@ -73,7 +75,7 @@ slice-aggregate-gcd-3 c =
     let s = c .before .before .before .before .before .before .before .before .before .before .before in
     let element-words = c .before .before .before .before .before .element-words in
     let slot-words = c .before .before .before .before .slot-words in
-    part-long _ _ 4096 (s .pre .1 .1 .1 .1 .0) (slot-few _ _ (element-words .ensures) (slot-words .ensures))
+    part-long _ _ answer-words (s .pre .1 .1 .1 .1 .0) (slot-few _ _ (element-words .ensures) (slot-words .ensures))
 
 slice-relend-prefix-gcd-2 : tie.Need-slice-relend-prefix-gcd-2
 slice-relend-prefix-gcd-2 c =
@@ -85,15 +87,15 @@ slice-aggregate-gcd-4 : tie.Need-slice-aggregate-gcd-4
 slice-aggregate-gcd-4 c =
     let s = c .before .before .before .before .before .before .before .before .before .before .before .before in
     let element-words = c .before .before .before .before .before .before .element-words in
-    part-long _ _ 2048 (s .pre .1 .1 .1 .1 .1 .0) (element-few _ _ (element-words .ensures) .1)
+    part-long _ _ most-element (s .pre .1 .1 .1 .1 .1 .0) (element-few _ _ (element-words .ensures) .1)
 
 gcd-requires : tie.Need-gcd-requires
 gcd-requires c κs =
     let s = c .before .before .before .before .before .before .before .before .before .before .before .before .before .before .before in
     let es = c .before .before .before .before .before .before .before .before .before .element-words .ensures in
     let slot-words = c .before .before .before .before .before .before .before .before .slot-words in (
-      part-ready _ _ 4096 _ (slot-few _ _ es (slot-words .ensures)) (s .pre .1 .1 .1 .1 .1 .1 .1),
-      part-ready _ _ 2048 _ (element-few _ _ es .1) (s .pre .1 .1 .1 .1 .1 .1 .1),
+      part-ready _ _ answer-words _ (slot-few _ _ es (slot-words .ensures)) (s .pre .1 .1 .1 .1 .1 .1 .1),
+      part-ready _ _ most-element _ (element-few _ _ es .1) (s .pre .1 .1 .1 .1 .1 .1 .1),
     )
 
 same-length-2 : tie.Need-same-length-2

@@ -4,7 +4,9 @@ use mathlib.Core.Path.{_∙_}
 use native.Mathlib.Omega.{arith}
 use mir.Syntax.{w64}
 use mir.ValLaws.{toZ-ofZ}
-use Rattle.lines.proofs.Appends.{retold}
+use Rattle.text.proofs.Appends.{retold}
+use Rattle.text.specs.Fields.{most-words}
+use Rattle.lines.specs.Steps.{answer-words, most-element}
 use Rattle.lines.proofs.Operations.{part-long, rest-is, part-ready, element-few, element-within, inv-missing, inv-told}
 use borrow.Author.Needs.{needs}
 use Rattle.lines.proofs.steps.tell_inv.Statement.{statement}
@@ -48,7 +50,7 @@ part-inv-end c = search needs
 slice-aggregate-inv : tie.Need-slice-aggregate-inv
 slice-aggregate-inv c =
     let s = c .before .before .before .before .before .before .before .before in
-    part-long _ _ 512 (s .pre .1 .1 .0) (s .pre .0 .a-inside)
+    part-long _ _ most-words (s .pre .1 .1 .0) (s .pre .0 .a-inside)
 
 slice-relend-prefix-inv : tie.Need-slice-relend-prefix-inv
 slice-relend-prefix-inv c =
@@ -60,7 +62,7 @@ slice-aggregate-inv-2 : tie.Need-slice-aggregate-inv-2
 slice-aggregate-inv-2 c =
     let s = c .before .before .before .before .before .before .before .before .before in
     let element-words = c .before .before .before .element-words in
-    part-long _ _ 4096 (s .pre .1 .1 .1 .0) (element-within _ _ (element-words .ensures))
+    part-long _ _ answer-words (s .pre .1 .1 .1 .0) (element-within _ _ (element-words .ensures))
 
 slice-relend-prefix-inv-2 : tie.Need-slice-relend-prefix-inv-2
 slice-relend-prefix-inv-2 c =
@@ -72,13 +74,13 @@ slice-aggregate-inv-3 : tie.Need-slice-aggregate-inv-3
 slice-aggregate-inv-3 c =
     let s = c .before .before .before .before .before .before .before .before .before .before in
     let element-words = c .before .before .before .before .element-words in
-    part-long _ _ 2048 (s .pre .1 .1 .1 .1 .0) (element-few _ _ (element-words .ensures) .1)
+    part-long _ _ most-element (s .pre .1 .1 .1 .1 .0) (element-few _ _ (element-words .ensures) .1)
 
 inv-requires : tie.Need-inv-requires
 inv-requires c κs =
     let s = c .before .before .before .before .before .before .before .before .before .before .before .before .before in
     let few = element-few _ _ (c .before .before .before .before .before .before .before .element-words .ensures) .1 in
-    (part-ready _ _ 2048 _ few (s .pre .1 .1 .1 .1 .1 .1), part-ready _ _ 2048 _ few (s .pre .1 .1 .1 .1 .1 .1))
+    (part-ready _ _ most-element _ few (s .pre .1 .1 .1 .1 .1 .1), part-ready _ _ most-element _ few (s .pre .1 .1 .1 .1 .1 .1))
 
 same-length-2 : tie.Need-same-length-2
 same-length-2 c = search needs

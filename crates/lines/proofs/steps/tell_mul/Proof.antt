@@ -3,7 +3,9 @@ use mathlib.Core.Path.{_∙_}
 use native.Mathlib.Omega.{arith}
 use mir.Syntax.{w64}
 use mir.ValLaws.{toZ-ofZ}
-use Rattle.lines.proofs.Appends.{retold}
+use Rattle.text.proofs.Appends.{retold}
+use Rattle.text.specs.Fields.{most-words}
+use Rattle.lines.specs.Steps.{answer-words}
 use Rattle.lines.proofs.Operations.{part-long, rest-is, part-ready, element-few, slot-few, mul-missing, mul-told}
 use borrow.Author.Needs.{needs}
 use Rattle.lines.proofs.steps.tell_mul.Statement.{statement}
@@ -56,12 +58,12 @@ part-mul-end c = search needs
 slice-aggregate-mul : tie.Need-slice-aggregate-mul
 slice-aggregate-mul c =
     let s = c .before .before .before .before .before .before .before .before .before in
-    part-long _ _ 512 (s .pre .1 .1 .0) (s .pre .0 .a-inside)
+    part-long _ _ most-words (s .pre .1 .1 .0) (s .pre .0 .a-inside)
 
 slice-aggregate-mul-2 : tie.Need-slice-aggregate-mul-2
 slice-aggregate-mul-2 c =
     let s = c .before .before .before .before .before .before .before .before .before .before in
-    part-long _ _ 512 (s .pre .1 .1 .1 .0) (s .pre .0 .b-inside)
+    part-long _ _ most-words (s .pre .1 .1 .1 .0) (s .pre .0 .b-inside)
 
 slice-relend-prefix-mul : tie.Need-slice-relend-prefix-mul
 slice-relend-prefix-mul c =
@@ -75,14 +77,14 @@ slice-aggregate-mul-3 c =
     let s = c .before .before .before .before .before .before .before .before .before .before .before in
     let element-words = c .before .before .before .before .before .element-words in
     let slot-words = c .before .before .before .before .slot-words in
-    part-long _ _ 4096 (s .pre .1 .1 .1 .1 .0) (slot-few _ _ (element-words .ensures) (slot-words .ensures))
+    part-long _ _ answer-words (s .pre .1 .1 .1 .1 .0) (slot-few _ _ (element-words .ensures) (slot-words .ensures))
 
 mul-requires : tie.Need-mul-requires
 mul-requires c κs =
     let s = c .before .before .before .before .before .before .before .before .before .before .before .before .before .before in
     let element-words = c .before .before .before .before .before .before .before .before .element-words in
     let slot-words = c .before .before .before .before .before .before .before .slot-words in
-    part-ready _ _ 4096 _ (slot-few _ _ (element-words .ensures) (slot-words .ensures)) (s .pre .1 .1 .1 .1 .1 .1)
+    part-ready _ _ answer-words _ (slot-few _ _ (element-words .ensures) (slot-words .ensures)) (s .pre .1 .1 .1 .1 .1 .1)
 
 same-length-2 : tie.Need-same-length-2
 same-length-2 c = search needs

@@ -1,0 +1,4 @@
+pub mod Text
+pub mod Appending
+pub mod Fields
+pub mod Written
