@@ -9,3 +9,4 @@ pub mod Determined
 pub mod Worked
 pub mod Written
 pub mod Shortest
+pub mod Told
