@@ -1,8 +1,10 @@
 // The calculator: lines of standard input, and the answers on standard output. Here bytes are
 // moved; what a line comes to is in `lines`.
 ghost use Prim.Native.Nat.{_≤_};
+ghost use mathlib.Core.Path.{_≡_};
 ghost use lib.ListN.{length, take};
-ghost use Rattle.calculator.specs.Sound.{Sound};
+ghost use Rattle.calculator.specs.Gathering.{Started, Gathered, Ended, Fed};
+ghost use Rattle.calculator.specs.Sound.{line-bytes, Sound};
 ghost use Rattle.lines.specs.Kept.{Sound as KeptSound, StepReady, Stepped};
 use lines::Kept;
 use lines::keeping::TOWER_WORDS;
@@ -53,7 +55,7 @@ struct Reading {
 // The start of a line.
 fn start(kept: Kept, line: u64) -> Reading
     requires { ⌜ KeptSound kept ⌝ }
-    ensures { λ r. ⌜ Sound r ⌝ }
+    ensures { λ r. ⌜ Started kept line r ⌝ }
 {
     Reading {
         kept,
@@ -64,9 +66,10 @@ fn start(kept: Kept, line: u64) -> Reading
 }
 
 // One byte behind those gathered; of a line that is too long one byte too many is kept.
-fn gather(text: &mut Text, s: Reading, byte: u8) -> Reading
+fn gather(text: &mut [u8], s: Reading, byte: u8) -> Reading
     requires { ⌜ Sound s ⌝ }
-    ensures { λ r. ⌜ Sound r ⌝ }
+    requires { ⌜ length (now text) ≡ line-bytes ⌝ }
+    ensures { λ r. ⌜ Gathered s byte (now (text .entry)) r (now (text .exit)) ⌝ }
 {
     let bytes = s.bytes;
     if LINE_BYTES <= bytes {
@@ -121,7 +124,8 @@ fn end_line(
     s: Reading,
 ) -> Reading
     requires { ⌜ Sound s ⌝ }
-    ensures { λ r. ⌜ Sound r ⌝ }
+    ensures { λ t.
+        ⌜ Ended s (now (text .entry)) (now (tower .entry)) (now (a .entry)) (now (b .entry)) (now (out .entry)) t (now (tower .exit)) (now (a .exit)) (now (b .exit)) (now (out .exit)) ⌝ }
 {
     let k = s.kept;
     let l = answer(
@@ -158,7 +162,8 @@ fn feed(
     byte: u8,
 ) -> Reading
     requires { ⌜ Sound s ⌝ }
-    ensures { λ r. ⌜ Sound r ⌝ }
+    ensures { λ t.
+        ⌜ Fed s byte (now (text .entry)) (now (tower .entry)) (now (a .entry)) (now (b .entry)) (now (out .entry)) t (now (text .exit)) (now (tower .exit)) (now (a .exit)) (now (b .exit)) (now (out .exit)) ⌝ }
 {
     if byte == b'\n' {
         return end_line(text, words, tower, a, b, g, r, f, v, out, s);

@@ -1,4 +1,5 @@
--- `calculator::end_line` meets its contract: the stores have the lengths that a line asks for. Assumes nothing.
+-- `calculator::end_line` meets its contract: the stores have the lengths that a line asks for, and the next line is started. Assumes nothing.
+use Rattle.calculator.proofs.Gathers.{line-ends}
 use borrow.Author.Needs.{needs}
 use Rattle.calculator.proofs.end_line.Statement.{statement}
 use Rattle.calculator.proofs.end_line.Tie as tie
@@ -30,7 +31,7 @@ start-requires : tie.Need-start-requires
 start-requires c κs = c .before .answer .ensures .sound
 
 returns : tie.Need-returns
-returns c = c .start .ensures
+returns c = line-ends (c .before .before .answer .ensures) (search needs) (c .start .ensures)
 
 pub end-line-spec : {M : Type 1} → statement M
 end-line-spec =
