@@ -1,13 +1,16 @@
-# make test: the second program's checks, whether the test lines are its own, then the gate. ./calculate runs the calculator.
-# make bench: proves and builds the library for C, then measures it beside two C programs (bench/README.md).
-.PHONY: test bench
+# make test: the second program's checks, whether the test lines and the pictures are their scripts' own, the gate, then the callers.
+# make callers: proves and builds the library for C, and runs callers in C, Rust and Python and the manual's examples.
+# make bench: proves and builds the library for C, then measures it beside two C programs and the stock systems that are installed.
+# ./calculate runs the calculator.
+.PHONY: test callers bench
 test:
 	python3 second/selftest.py
 	python3 second/vectors.py --check
 	python3 second/lines.py --check
+	python3 docs/pictures.py --check
 	.ci/run
+	callers/run
+callers:
+	callers/run
 bench:
-	@test "$$(uname -m)" = x86_64 || { echo "make bench: the library for C is x86-64 code, and this machine is $$(uname -m)" >&2; exit 2; }
-	rt staticlib capi
-	$$(command -v clang || echo cc) -std=c11 -O3 -Wall -Wextra -o target/bench bench/*.c target/staticlib/libcapi.a
-	target/bench
+	bench/run
