@@ -3,20 +3,39 @@
    words, whether the targets are reached or not; 1 when they did not, when the library refused one of their calls, or
    when it did not refuse what it must. */
 #define _POSIX_C_SOURCE 200809L
-#include "loads.h"
+#include "stock.h"
 #include <stdio.h>
 #include <time.h>
 #include <unistd.h>
 
 enum {
     LEAST_ROUNDS = 10, /* samples of each contender, for each operation of each row */
-    LONGEST_RUN = 150  /* seconds; an alarm ends the program then */
+    LONGEST_RUN = 240  /* seconds; an alarm ends the program then */
 };
 static const double SAMPLE_SECONDS = 0.0005; /* a sample is as many calls as take this long */
 static const double ROUNDS_SECONDS = 0.3;    /* rounds go on until this has passed */
 
-/* The least seconds of all samples, for one call. */
-static double results[LOADS][OPERATIONS][CONTENDERS];
+/* The stock systems that are installed. */
+static const struct stock *const stocks[] = {
+#ifdef HAVE_FLINT
+    &flint,
+#endif
+#ifdef HAVE_NTL
+    &ntl,
+#endif
+#ifdef HAVE_PARI
+    &pari,
+#endif
+    NULL};
+enum { STOCKS = sizeof stocks / sizeof stocks[0] - 1, ALL = CONTENDERS + STOCKS };
+
+/* The least seconds of all samples, for one call; 0 where it is not made. */
+static double results[LOADS][OPERATIONS][ALL];
+
+/* Stock systems answer on the rows with at most one level. */
+static int answering(const struct load *load) { return load->n <= 1 ? ALL : CONTENDERS; }
+
+static const char *name_of(int who) { return who < CONTENDERS ? contenders[who]->name : stocks[who - CONTENDERS]->name; }
 
 /* The seconds that this program has had a processor: what others take away from it does not count. */
 static double now(void)
@@ -26,33 +45,50 @@ static double now(void)
     return (double)t.tv_sec + 1e-9 * (double)t.tv_nsec;
 }
 
-/* Ends the program: that contender did not answer the call by Done. */
-static void not_done(const struct contender *who, int operation, size_t number)
+/* Ends the program: that one did not answer the call by Done. */
+static void not_done(int who, int operation, size_t number)
 {
     char what[60];
     snprintf(what, sizeof what, number < 100 ? "refused with number %zu" : "a factor is shown, %zu", number);
-    fail(who, operation, what);
+    fail(name_of(who), operation, what);
+}
+
+/* One call; a stock system's answer becomes words later. */
+static size_t make(int who, int operation, long turn)
+{
+    if (who < CONTENDERS)
+        return call(contenders[who], operation, turn);
+    stocks[who - CONTENDERS]->run(operation, turn);
+    return 0;
+}
+
+/* Compares the answers of that many turns with the expected ones. */
+static void compare_all(int who, int operation, long count)
+{
+    for (long turn = 0; who >= CONTENDERS && turn < count; turn++)
+        stocks[who - CONTENDERS]->give(operation, turn, answer_slot(operation, turn), remainder_slot());
+    compare(name_of(who), operation, count);
 }
 
 /* The seconds of one call, the mean of so many in a row. The answer slots are spoilt before and compared after. */
-static double sample(const struct contender *who, int operation, long calls)
+static double sample(int who, int operation, long calls)
 {
     const long all = turns(operation), used = calls < all ? calls : all;
     spoil(operation, used);
     const double start = now();
     for (long i = 0, turn = 0; i < calls; i++) {
-        const size_t number = call(who, operation, turn);
+        const size_t number = make(who, operation, turn);
         if (number != 0)
             not_done(who, operation, number);
         turn = turn + 1 < all ? turn + 1 : 0;
     }
     const double seconds = (now() - start) / (double)calls;
-    compare(who, operation, used);
+    compare_all(who, operation, used);
     return seconds;
 }
 
 /* How many calls make a sample. */
-static long calls_of_sample(const struct contender *who, int operation)
+static long calls_of_sample(int who, int operation)
 {
     long calls = 1;
     while ((double)calls * sample(who, operation, calls) < SAMPLE_SECONDS)
@@ -61,18 +97,18 @@ static long calls_of_sample(const struct contender *who, int operation)
 }
 
 /* The contenders take turns, each round begun by another one, so that a disturbance meets all alike. */
-static void measure(int operation, double seconds[CONTENDERS])
+static void measure(int count, int operation, double seconds[ALL])
 {
-    long calls[CONTENDERS];
-    for (int who = 0; who < CONTENDERS; who++) {
-        calls[who] = calls_of_sample(contenders[who], operation);
-        seconds[who] = sample(contenders[who], operation, calls[who]);
+    long calls[ALL];
+    for (int who = 0; who < count; who++) {
+        calls[who] = calls_of_sample(who, operation);
+        seconds[who] = sample(who, operation, calls[who]);
     }
     const double start = now();
     for (int round = 0; round < LEAST_ROUNDS || now() - start < ROUNDS_SECONDS; round++)
-        for (int turn = 0; turn < CONTENDERS; turn++) {
-            const int who = (round + turn) % CONTENDERS;
-            const double again = sample(contenders[who], operation, calls[who]);
+        for (int turn = 0; turn < count; turn++) {
+            const int who = (round + turn) % count;
+            const double again = sample(who, operation, calls[who]);
             if (again < seconds[who])
                 seconds[who] = again;
         }
@@ -84,46 +120,41 @@ static void measure_all(void)
     for (int row = 0; row < LOADS; row++) {
         fprintf(stderr, "\r%2d of %d: %-*s", row + 1, LOADS, LABEL_LENGTH, label(&loads[row]));
         prepare(&loads[row]);
+        const int count = answering(&loads[row]);
+        const struct operands taken = operands();
+        for (int who = CONTENDERS; who < count; who++)
+            stocks[who - CONTENDERS]->take(&taken);
         for (int operation = 0; operation < OPERATIONS; operation++)
-            measure(operation, results[row][operation]);
+            measure(count, operation, results[row][operation]);
     }
     fprintf(stderr, "\r%*s\r", LABEL_LENGTH + 10, "");
 }
 
-/* The head of a table with two operations. */
-static void print_header(const int shown[2])
+/* One row of an operation's table; a stock system that does not answer has a dash. */
+static void print_row(int row, const double seconds[ALL])
 {
-    printf("%-*s", LABEL_LENGTH, "");
-    for (int i = 0; i < 2; i++)
-        printf("  %-32s", operations[shown[i]]);
-    printf("\n%-*s", LABEL_LENGTH, "");
-    for (int i = 0; i < 2; i++)
-        printf("  %12s %10s %8s", "kernel", "published/", "kernel/");
-    printf("\n%-*s", LABEL_LENGTH, "row");
-    for (int i = 0; i < 2; i++)
-        printf("  %-12s %10s %8s", "microseconds", "kernel", "tuned");
+    printf("%-*s %12.2f %12.2f %9.2f", LABEL_LENGTH, label(&loads[row]), 1e6 * seconds[KERNEL],
+           seconds[PUBLISHED] / seconds[KERNEL], seconds[KERNEL] / seconds[TUNED]);
+    for (int who = CONTENDERS; who < ALL; who++)
+        if (who < answering(&loads[row]))
+            printf(" %9.2f", seconds[KERNEL] / seconds[who]);
+        else
+            printf(" %9s", "-");
     printf("\n");
 }
 
-/* One row of a table with two operations. */
-static void print_row(int row, const int shown[2])
+/* The table of an operation. */
+static void print_table(int operation)
 {
-    printf("%-*s", LABEL_LENGTH, label(&loads[row]));
-    for (int i = 0; i < 2; i++) {
-        const double *seconds = results[row][shown[i]];
-        printf("  %12.2f %10.2f %8.2f", 1e6 * seconds[KERNEL], seconds[PUBLISHED] / seconds[KERNEL],
-               seconds[KERNEL] / seconds[TUNED]);
-    }
+    printf("%-*s %12s %12s %9s", LABEL_LENGTH, operations[operation], "kernel", "published/", "kernel/");
+    for (int who = CONTENDERS; who < ALL; who++)
+        printf(" %9s", "kernel/");
+    printf("\n%-*s %12s %12s %9s", LABEL_LENGTH, "", "microseconds", "kernel", "tuned");
+    for (int who = CONTENDERS; who < ALL; who++)
+        printf(" %9s", name_of(who));
     printf("\n");
-}
-
-/* A table with two operations. */
-static void print_table(int first, int second)
-{
-    const int shown[2] = {first, second};
-    print_header(shown);
     for (int row = 0; row < LOADS; row++)
-        print_row(row, shown);
+        print_row(row, results[row][operation]);
     printf("\n");
 }
 
@@ -189,8 +220,8 @@ int main(void)
     check_factor();
     measure_all();
     printf("p = %d, least times of one call. Product is of degree n by n, division of 2n by n, GCD of n and n.\n\n", P);
-    print_table(PRODUCT, DIVISION);
-    print_table(INVERSE, GCD);
+    for (int operation = 0; operation < OPERATIONS; operation++)
+        print_table(operation);
     for (int i = 0; i < TARGETS; i++)
         print_target(&targets[i]);
     return 0;

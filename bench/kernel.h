@@ -1,15 +1,10 @@
-/* The C functions of the proved library, crate capi. Only this header knows their names. Unlike the baselines they
-   check every word that they are given and clear the work words that they need. Lists must be valid, and those that
-   are written must overlap no other. */
+/* The proved library, crate capi, as a contender. Unlike the baselines it checks every word that it is given and clears
+   the work words that it needs. */
 #ifndef BENCH_KERNEL_H
 #define BENCH_KERNEL_H
 
+#include "../include/mausvioline.h"
 #include "calls.h"
-
-product_call mausvioline_product;
-division_call mausvioline_division;
-inverse_call mausvioline_inverse;
-gcd_call mausvioline_gcd;
 
 static const struct contender kernel = {"kernel", mausvioline_product, mausvioline_division, mausvioline_inverse,
                                         mausvioline_gcd};

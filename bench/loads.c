@@ -178,6 +178,19 @@ static size_t call_into(struct slots *y, const struct contender *who, int operat
     }
 }
 
+struct operands operands(void)
+{
+    return (struct operands){x.load,  x.tower_words, x.a,           x.b,           x.dividend,     x.element,
+                             x.left,  x.right,       x.short_len,   x.element_len, turns(INVERSE), turns(GCD)};
+}
+
+int64_t *answer_slot(int operation, long turn)
+{
+    return found.answer[operation] + (size_t)turn * x.answer_len[operation];
+}
+
+int64_t *remainder_slot(void) { return found.remainder; }
+
 size_t call(const struct contender *who, int operation, long turn) { return call_into(&found, who, operation, turn); }
 
 void spoil(int operation, long count)
@@ -185,14 +198,14 @@ void spoil(int operation, long count)
     memset(found.answer[operation], 0x55, bytes((size_t)count * x.answer_len[operation]));
 }
 
-_Noreturn void fail(const struct contender *who, int operation, const char *what)
+void fail(const char *who, int operation, const char *what)
 {
-    fprintf(stderr, "\n%s, %s by %s: %s\n", label(x.load), operations[operation], who->name, what);
+    fprintf(stderr, "\n%s, %s by %s: %s\n", label(x.load), operations[operation], who, what);
     exit(1);
 }
 
 /* Ends the program at the first word that is not the expected one. */
-static void compare_words(const struct contender *who, int operation, const char *list, const int64_t *words,
+static void compare_words(const char *who, int operation, const char *list, const int64_t *words,
                           const int64_t *expected_words, size_t count)
 {
     char what[100];
@@ -204,7 +217,7 @@ static void compare_words(const struct contender *who, int operation, const char
         }
 }
 
-void compare(const struct contender *who, int operation, long count)
+void compare(const char *who, int operation, long count)
 {
     compare_words(who, operation, answers[operation], found.answer[operation], expected.answer[operation],
                   (size_t)count * x.answer_len[operation]);
@@ -228,9 +241,9 @@ static void expect_product_and_division(void)
     fill_coefficients(x.tower.levels, x.dividend, x.load->degree);
     call_into(&expected, &published, DIVISION, 0);
     if (memcmp(expected.answer[DIVISION], x.a, bytes(x.short_len)) != 0)
-        fail(&published, DIVISION, "the quotient is not a");
+        fail(published.name, DIVISION, "the quotient is not a");
     if (expected.remainder[0] < 0)
-        fail(&published, DIVISION, "the remainder is zero");
+        fail(published.name, DIVISION, "the remainder is zero");
 }
 
 /* The expected inverses, by the published algorithm: each times its element is 1. */
@@ -241,11 +254,11 @@ static void expect_inverses(void)
     for (long turn = 0; turn < turns(INVERSE); turn++) {
         const size_t at = (size_t)turn * x.element_len;
         if (call_into(&expected, &published, INVERSE, turn) != 0)
-            fail(&published, INVERSE, "a factor is shown");
+            fail(published.name, INVERSE, "a factor is shown");
         memcpy(c + 1, x.element + at, bytes(x.element_len));
         memcpy(r + 1, expected.answer[INVERSE] + at, bytes(x.element_len));
         multiply(c, r, 1 + x.element_len, product, 1 + x.element_len);
-        compare_words(&published, INVERSE, "inverse times its element", product, one, 1 + x.element_len);
+        compare_words(published.name, INVERSE, "inverse times its element", product, one, 1 + x.element_len);
     }
 }
 
@@ -266,7 +279,7 @@ static void expect_gcds(void)
     for (int who = 0; who < CONTENDERS; who++) {
         contenders[who]->gcd(P, x.load->n, x.load->degrees, x.tower_words, x.tower_len, left, long_len, right, long_len,
                              g, long_len, found.factor, x.element_len, x.work, x.work_len[GCD]);
-        compare_words(contenders[who], GCD, "GCD that is a known factor", g, factor, long_len);
+        compare_words(contenders[who]->name, GCD, "GCD that is a known factor", g, factor, long_len);
     }
     for (long turn = 0; turn < turns(GCD); turn++) {
         int64_t *one = expected.answer[GCD] + (size_t)turn * x.short_len;

@@ -18,6 +18,16 @@ extern const struct contender *const contenders[CONTENDERS];
 extern const char *const operations[OPERATIONS];
 extern const struct load loads[LOADS];
 
+/* The operands of the prepared load, as words: those of product and division, and those of every turn of inverse and GCD,
+   one behind another, element_len or short_len words each. */
+struct operands {
+    const struct load *load;
+    const int64_t *tower, *a, *b, *dividend, *element, *left, *right;
+    size_t short_len, element_len;
+    long inverses, gcds;
+};
+struct operands operands(void);
+
 /* A load's name, such as "N = 2, d = (2, 30), degree 80". */
 const char *label(const struct load *load);
 
@@ -30,14 +40,18 @@ long turns(int operation);
 /* One call on the operands of that turn. */
 size_t call(const struct contender *who, int operation, long turn);
 
+/* Where an answer of that turn stands, and the remainder of a division. */
+int64_t *answer_slot(int operation, long turn);
+int64_t *remainder_slot(void);
+
 /* Spoils the answer slots of that many turns. */
 void spoil(int operation, long count);
 
 /* Ends the program where a word in the answer slots of that many turns is not the expected one. */
-void compare(const struct contender *who, int operation, long count);
+void compare(const char *who, int operation, long count);
 
-/* Ends the program: that contender's call on the prepared load went wrong. */
-_Noreturn void fail(const struct contender *who, int operation, const char *what);
+/* Ends the program: that one's call on the prepared load went wrong. */
+void fail(const char *who, int operation, const char *what);
 
 /* Calls of the library that it must refuse, and a factor that all must show; ends the program where one does not. */
 void check_refusals(void);
