@@ -40,12 +40,13 @@ module _ {A : Type 0} {o : A} {z : A → Bool} (Z : ZeroTest o z) where
     where
       two : (b : Bool) → (T b → v.0 ≡ o) → (T (not b) → ¬ (v.0 ≡ o)) → ((n : ℕ) → coef o d v.1 n ≡ o)
           → Stripped o (suc d) v (branch b (λ _. null) (λ _. lead zero tt v.0))
-      two true y n h = λ k. elim k [ zero ↦ y tt | suc k ↦ h k ]
-      two false y n h = (omega arith, n tt, λ k. elim k [ zero ↦ refl | suc k ↦ h k ])
+      two true y n h = λ k. elim k as (λ k. coef o (suc d) v k ≡ o) [ zero ↦ y tt | suc k ↦ h k ]
+      two false y n h =
+          (omega arith, n tt, λ k. elim k as (λ k. coef o (suc d) v k ≡ coef o 1 (topped {A = A} 0 tt v.0) k) [ zero ↦ refl | suc k ↦ h k ])
 
       go : (s : Shape A) → Stripped o d v.1 s → Stripped o (suc d) v (strip_step z v.0 s)
       go null h = two (z v.0) (Z.sound v.0) (not_zero Z v.0) h
-      go (lead e w c) h = (omega (arith, h.0), h.1, λ k. elim k [ zero ↦ refl | suc k ↦ h.2 k ])
+      go (lead e w c) h = (omega (arith, h.0), h.1, λ k. elim k as (λ k. coef o (suc d) v k ≡ coef o (suc (suc e)) (topped {A = A} (suc e) (v.0, w) c) k) [ zero ↦ refl | suc k ↦ h.2 k ])
 
   pub strip_null : (k : ℕ) (a : Vec A k) → ((n : ℕ) → coef o k a n ≡ o) → strip z k a ≡ null
   strip_null zero a h = refl

@@ -123,6 +123,8 @@ eq_mon_sound : (m n : Mon) → T (eq_mon m n) → m ≡ n
 eq_mon_sound [] [] h = refl
 eq_mon_sound (i ∷ m) (j ∷ n) h =
     ap₂ ◌∷◌ (eqb→eq i j (both_l (eqb i j) (eq_mon m n) h)) (eq_mon_sound m n (both_r (eqb i j) (eq_mon m n) h))
+eq_mon_sound [] (j ∷ n) h = elim h [ ]
+eq_mon_sound (i ∷ m) [] h = elim h [ ]
 
 module _ (R : CRing) where
   open R use {Car, 𝟘, 𝟙, ◌⊕◌, ◌⊗◌, ⊖◌, ⊕_assoc, ⊕_comm, ⊕_zero, ⊕_neg, ⊗_assoc, ⊗_comm, ⊗_one, ⊗_dist}
@@ -175,6 +177,8 @@ module _ (R : CRing) where
     unfolding ev_t
     cancels_ok (term true k m) (term false l n) h x = rw (eq_mon_sound m n (both_r (eqb k l) (eq_mon m n) h)) (⊕_cancel_neg R _ _)
     cancels_ok (term false k m) (term true l n) h x = rw (eq_mon_sound m n (both_r (eqb k l) (eq_mon m n) h)) (neg_cancel_⊕ R _ _)
+    cancels_ok (term false k m) (term false l n) h x = elim h [ ]
+    cancels_ok (term true k m) (term true l n) h x = elim h [ ]
 
     mul_term_ok : (t u : Term) → ev_t (mul_term t u) ≡ ev_t t ⊗ ev_t u
     unfolding ev_t

@@ -25,6 +25,7 @@ branch false x y = y tt
 
 pub branch_yes : {A : Type 0} (b : Bool) (f : T b → A) (g : T (not b) → A) (t : T b) → branch b f g ≡ f t
 branch_yes true f g t = refl
+branch_yes {A = A} false f g t = elim t [ ]
 
 pub test_complete : {A : Type 0} (E : EqTest A) {a b : A} → a ≡ b → T (E.eq a b)
 test_complete E {a} {b} p = subst (λ x. T (E.eq a x)) p (E.same a)
@@ -43,12 +44,15 @@ test-set E = hedberg (test_discrete E)
 
 pub both : (a b : Bool) → T a → T b → T (a && b)
 both true b h k = k
+both false b h k = elim h [ ]
 
 pub both_l : (a b : Bool) → T (a && b) → T a
 both_l true b h = tt
+both_l false b h = elim h [ ]
 
 pub both_r : (a b : Bool) → T (a && b) → T b
 both_r true b h = h
+both_r false b h = elim h [ ]
 
 -- each number below n passes f
 abbrev pub all_to : ℕ → (ℕ → Bool) → Bool

@@ -62,7 +62,7 @@ pub fn line_pairs(
 }
 
 // The sums of the three places where two elements of two coefficients meet.
-#[derive(Drop)]
+#[derive(Clone, Copy)]
 pub struct Triple {
     pub low: Accumulator,
     pub middle: Accumulator,
@@ -145,7 +145,7 @@ pub fn three_pairs(
 }
 
 // The sums of the seven places where two elements of four coefficients meet: 0 and 1 are the first's low and middle, 2 and 3 the second's, and 4 to 6 the third.
-#[derive(Drop)]
+#[derive(Clone, Copy)]
 pub struct Septet {
     pub first: Triple,
     pub second: Triple,

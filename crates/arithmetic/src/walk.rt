@@ -42,7 +42,7 @@ pub fn dot(
 }
 
 // A way through two lists: how many pairs there are, upwards in the one and downwards in the other, and how many words apart they stand.
-#[derive(Drop)]
+#[derive(Clone, Copy)]
 pub struct Way {
     pub count: usize,
     pub step: usize,
@@ -151,7 +151,7 @@ pub fn box5(
 }
 
 // The window of a level: where its first coefficients stand, and the way through the pairs that meet.
-#[derive(Drop)]
+#[derive(Clone, Copy)]
 pub struct Window {
     pub at: usize,
     pub way: Way,

@@ -12,7 +12,7 @@ use Rattle.std.proofs.Common.{ap₂, ◌∙◌, subst, inl, inr, mod-lt, mod-eq_
 use Rattle.std.proofs.Math.Bool.{true, false}
 use Prim.Native.Nat.{ℕ, zero, suc, ◌*◌, ◌/◌, ◌%◌, ◌≤◌, ◌<◌, ◌∣◌}
 use native.Mathlib.Omega.{arith}
-use Rattle.std.proofs.Math.Nat.{dvd-mod_iff, dvd-mul_left_of_dvd, dvd_refl, dvd_zero, dvd_antisymm, le_of_dvd, pos_of_dvd_of_pos}
+use Rattle.std.proofs.Math.Nat.{dvd-mod_iff, dvd-mul_left_of_dvd, dvd_refl, dvd-zero, dvd_antisymm, le_of_dvd, pos_of_dvd_of_pos}
 use Rattle.std.proofs.Math.Dec.{ltb→lt}
 use Rattle.algebra.specs.Test.{branch}
 use Rattle.algebra.specs.Ring.{CRing, zero-⊗, one-⊗}
@@ -70,7 +70,7 @@ module _ (p : ℕ) (pos : 0 < p) where
   pub rows_ok : (c : Car) (k r : ℕ) (x : Car) (s : ℕ) (y : Car) → s < k → to_z p pos r ≡ x ⊗ c → to_z p pos s ≡ y ⊗ c → Row c r s (rows k r x s y)
   unfolding rows
   rows_ok c zero r x s y l e f = absurd (omega arith)
-  rows_ok c (suc k) r x zero y l e f = record { combined = e; greatest = λ h. (λ d. (d, dvd_zero h), λ d. d.0) }
+  rows_ok c (suc k) r x zero y l e f = record { combined = e; greatest = λ h. (λ d. (d, dvd-zero h), λ d. d.0) }
   rows_ok c (suc k) r x (suc s) y l e f =
       row_step c k r s _ (rows_ok c k (suc s) y (r % suc s) (x ⊕ (⊖ (to_z p pos (r / suc s) ⊗ y))) (rest_small r s k l) f (rest_combined c r x s y e f))
 

@@ -27,7 +27,7 @@ use tower::work::{gcd_work, inverse_work, product_work};
 use views::leading;
 
 // Done, a shown factor with its level, or a refusal with its number.
-#[derive(Drop)]
+#[derive(Clone, Copy)]
 pub enum Answer {
     Done,
     Factor(usize),
@@ -35,7 +35,7 @@ pub enum Answer {
 }
 
 // The work sizes M(N), I(N) and the GCD's number; zeros beside a refusal.
-#[derive(Drop)]
+#[derive(Clone, Copy)]
 pub struct WorkSizes {
     pub answer: Answer,
     pub product: usize,
@@ -44,14 +44,14 @@ pub struct WorkSizes {
 }
 
 // The residue of a fraction; 0 beside a refusal.
-#[derive(Drop)]
+#[derive(Clone, Copy)]
 pub struct FractionResidue {
     pub answer: Answer,
     pub residue: u64,
 }
 
 // What N and the degrees come to once they are in range: the levels, the four degrees, S_0 to S_4, and S_N.
-#[derive(Drop)]
+#[derive(Clone, Copy)]
 struct Shape {
     pub levels: usize,
     pub degrees: [usize; 4],

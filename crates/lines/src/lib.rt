@@ -9,7 +9,7 @@ pub mod reading;
 pub mod steps;
 
 // What a line says: of ext, poly a and poly b how many words they carry, which stand in a store.
-#[derive(Drop)]
+#[derive(Clone, Copy)]
 pub enum Line {
     Unreadable,
     Field(i64),
@@ -24,7 +24,7 @@ pub enum Line {
 
 // What is kept between lines: whether there is a field, and its p; the levels and their degrees; where the tower's words begin in their store, which they
 // fill from the end; how many words a and b have, none where there is none; and how many bytes answer the last line.
-#[derive(Drop)]
+#[derive(Clone, Copy)]
 pub struct Kept {
     pub field: bool,
     pub p: i64,

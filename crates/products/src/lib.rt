@@ -5,7 +5,7 @@ pub mod unit;
 
 // The operands of a product: n pairs of elements of level i, upwards from a in the one list and downwards to b in the other, each in the store or in
 // lent words.
-#[derive(Drop)]
+#[derive(Clone, Copy)]
 pub struct Operands {
     pub i: usize,
     pub x_in: bool,

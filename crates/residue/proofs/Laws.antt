@@ -13,9 +13,9 @@ use mathlib.Core.Bool.{Bool, true, false, not}
 use mathlib.Core.Logic.{◌↔◌}
 use Prim.Native.Nat.{ℕ, zero, suc, ◌+◌, ◌-◌, ◌*◌, ◌/◌, ◌%◌, ◌^◌, ◌<◌, ◌≤◌, ◌∣◌}
 use native.Mathlib.Omega.{arith}
-use native.Mathlib.Nat.{le_refl, mod-lt, mod-eq_of_lt, add-mod_right, mod-add-mod, add-mod-mod, add-mul-mod_self_right, div-add-mod'}
+use native.Mathlib.Nat.{le_refl, mod-lt, mod-eq_of_lt, add-mod_right, mod-add-mod, add-mul-mod_self_right, div-add-mod'}
 use native.Mathlib.Nat.{mul-le-mul, mul-le-mul_right, le-mul_of_pos_right}
-use native.Mathlib.Nat.{dvd_refl, dvd_zero, dvd-add, dvd-add_iff_left, dvd-mul_left_of_dvd, dvd_antisymm, eq-one_of_dvd-one}
+use native.Mathlib.Nat.{dvd_refl, dvd-zero, dvd-add, dvd-add_iff_left, dvd-mul_left_of_dvd, dvd_antisymm, eq-one_of_dvd-one}
 use Rattle.algebra.specs.Zmod.{mul_mod_l, mul_mod_r}
 use Rattle.residue.specs.Number.{Below, sum_of, Room, Added, UnitOf, FactorOf, Inverted}
 use Rattle.residue.specs.declared.Inverse.{Inverse}
@@ -165,7 +165,7 @@ opposite p c u m n h e = omega (arith, ap (λ k. k * c) h)
 -- The rows end where the second remainder is 0: the first has exactly the common divisors of p and c.
 module _ (p c : ℕ) (s : Bool) (r0 r1 m0 m1 : ℕ) (end : r1 ≡ 0) (w : Rows p c s r0 r1 m0 m1) where
   greatest : (k : ℕ) → (k ∣ r0) ↔ ((k ∣ p) × (k ∣ c))
-  greatest k = (λ d. (w.common k).0 (d, rw end (dvd_zero k)), λ d. ((w.common k).1 d).0)
+  greatest k = (λ d. (w.common k).0 (d, rw end (dvd-zero k)), λ d. ((w.common k).1 d).0)
 
   pub finish_factor : 1 < r0 → FactorOf p c r0
   finish_factor h = record { above = h; common = greatest }

@@ -2,6 +2,8 @@
 // residues. The inverse is in `rows`.
 //
 // Its contracts cite `specs/Number.antt` and `specs/Word.antt`.
+#![tactic(auto)]
+
 pub mod rows;
 
 ghost use Rattle.std.specs.Prelude.{◌≡◌, ◌+◌, ◌-◌, ◌*◌, ◌%◌, ◌^◌, ◌<◌, pos, nat_abs, length, get_or, set};
@@ -9,7 +11,7 @@ ghost use Rattle.residue.specs.Number.{Modulus, Operands, Below, sum_of, Room, A
 ghost use Rattle.residue.specs.Word.{num, at, Narrow, mod_z};
 
 // The inverse of a number, or the greatest common divisor of it and the modulus.
-#[derive(Drop)]
+#[derive(Clone, Copy)]
 pub enum Inverse {
     Unit(u64),
     Factor(u64),
@@ -41,7 +43,7 @@ pub fn multiply(a: u64, b: u64, p: u64) -> u64
 }
 
 // A sum of products: two words for the value lo + hi · 2^32.
-#[derive(Drop)]
+#[derive(Clone, Copy)]
 pub struct Accumulator {
     pub lo: u64,
     pub hi: u64,

@@ -7,7 +7,7 @@ pub mod rows;
 pub mod starts;
 
 // What an inverse came to: it is given, a factor of a level is shown, or more remainders were taken than are allowed.
-#[derive(Drop)]
+#[derive(Clone, Copy)]
 pub enum Outcome {
     Done,
     Factor(usize),
@@ -15,7 +15,7 @@ pub enum Outcome {
 }
 
 // The same with the place where the answer's words stand: of the inverse, or of a factor of a level.
-#[derive(Drop)]
+#[derive(Clone, Copy)]
 pub enum Ended {
     Inverse(usize),
     Divisor(usize, usize),
@@ -23,7 +23,7 @@ pub enum Ended {
 }
 
 // What a turn came to: the coefficients of the remainder up to its leading one, 0 where it is zero; a factor of a level and its place; or too many remainders.
-#[derive(Drop)]
+#[derive(Clone, Copy)]
 pub enum Turn {
     Next(usize),
     Shows(usize, usize),
@@ -31,7 +31,7 @@ pub enum Turn {
 }
 
 // A polynomial of a sequence: where its coefficients stand, what it carries, the inverse of its leading coefficient, and how many coefficients it has.
-#[derive(Drop)]
+#[derive(Clone, Copy)]
 pub struct Led {
     pub row: usize,
     pub carried: usize,
@@ -40,7 +40,7 @@ pub struct Led {
 }
 
 // What a GCD came to: the place and the number of its coefficients; a factor of a level and its place; or too many remainders.
-#[derive(Drop)]
+#[derive(Clone, Copy)]
 pub enum Found {
     Greatest(usize, usize),
     Divides(usize, usize),

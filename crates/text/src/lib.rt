@@ -5,14 +5,14 @@ pub mod fields;
 pub mod numbers;
 
 // The number that digits hold.
-#[derive(Drop)]
+#[derive(Clone, Copy)]
 pub enum Digits {
     Value(u64),
     Wrong,
 }
 
 // A field read as a number.
-#[derive(Drop)]
+#[derive(Clone, Copy)]
 pub enum Number {
     Is(i64),
     Not,

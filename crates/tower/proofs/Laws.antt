@@ -40,6 +40,7 @@ leb_not k n = bool_eq (leb k n) (not (ltb n k)) (λ h. not_T (ltb n k) (λ t. lt
       where
         le_by : (b : Bool) → ltb n k ≡ b → T (not b) → k ≤ n
         le_by false e t = nltb→le n k (subst (λ x. T (not x)) (sym e) t)
+        le_by true e t = elim t [ ]
 
 at_least : (k : ℕ) (z : ℤ) → le_z (pos k) z ≡ not (lt_z z (pos k))
 at_least k (pos n) = leb_not k n

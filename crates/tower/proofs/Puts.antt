@@ -2,7 +2,7 @@
 use Prim.Native.Nat.{ℕ, zero, suc, ◌+◌, ◌-◌, ◌*◌, ◌<◌, ◌≤◌}
 use mathlib.Core.Path.{◌≡◌, refl, sym, ap, ◌∙◌, subst}
 use mathlib.Core.Logic.{inl, inr}
-use mathlib.Core.List.{List, [], ◌∷◌, ◌++◌, append_assoc, append_nil}
+use mathlib.Core.List.{List, [], ◌∷◌, ◌++◌, append_assoc, append-nil}
 use native.Mathlib.Nat.{lt_irrefl, suc-mul}
 use native.Mathlib.Numerals.{add-one, sub-one}
 use native.Mathlib.Omega.{arith}
@@ -19,7 +19,7 @@ use Rattle.tower.proofs.Laws.{row}
 use Rattle.tower.proofs.Rows.{size_down}
 
 copies_more : (n : ℕ) (l : List ℤ) → copies (suc n) l ≡ copies n l ++ l
-copies_more zero l = append_nil l
+copies_more zero l = append-nil l
 copies_more (suc n) l = ap (λ t. l ++ t) (copies_more n l) ∙ sym (append_assoc l (copies n l) l)
 
 seg_more : (a k : ℕ) (x : List ℤ) → a + k < length x → seg a (suc k) x ≡ seg a k x ++ (get_or x (a + k) (pos 0) ∷ [])

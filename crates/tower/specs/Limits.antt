@@ -22,12 +22,14 @@ p_ok p = le_z (pos 2) p && le_z p (pos 2147483647)
 
 pub p_two : (p : ℤ) → T (p_ok p) → 2 ≤ num p
 p_two (pos m) h = leb→le 2 m (both_l (leb 2 m) _ h)
+p_two (negsuc _) h = elim h [ ]
 
 pub p_positive : (p : ℤ) → T (p_ok p) → 0 < num p
 p_positive p h = omega (arith, p_two p h)
 
 pub p_narrow : (p : ℤ) → T (p_ok p) → num p < 2 ^ 31
 p_narrow (pos m) h = omega (arith, leb→le m 2147483647 (both_r (leb 2 m) _ h))
+p_narrow (negsuc _) h = elim h [ ]
 
 -- "A tower has N levels, 0 to 4."
 abbrev pub levels_ok : ℤ → Bool

@@ -9,6 +9,7 @@ use Rattle.tower.specs.Form.{eq_z, same, implies, seg, copies, degree_ok}
 
 pub implies_use : (a b : Bool) → T (implies a b) → T a → T b
 implies_use true b h k = h
+implies_use false b h k = elim k [ ]
 
 pub implies-make : (a b : Bool) → (T a → T b) → T (implies a b)
 implies-make true b f = f tt
@@ -16,6 +17,7 @@ implies-make false b f = tt
 
 pub to_true : (b : Bool) → T b → b ≡ true
 to_true true h = refl
+to_true false h = elim h [ ]
 
 pub of_true : (b : Bool) → b ≡ true → T b
 of_true true h = tt
@@ -24,6 +26,8 @@ of_true false h = let e : ◌≡◌ {A = ℕ} 0 1 = cc in absurd (lt_irrefl 0 (o
 pub eq_z_sound : (a b : ℤ) → T (eq_z a b) → a ≡ b
 eq_z_sound (pos m) (pos n) h = ap pos (eqb→eq m n h)
 eq_z_sound (negsuc m) (negsuc n) h = ap negsuc (eqb→eq m n h)
+eq_z_sound (pos m) (negsuc n) h = elim h [ ]
+eq_z_sound (negsuc m) (pos n) h = elim h [ ]
 
 pub eq_z_refl : (a : ℤ) → T (eq_z a a)
 eq_z_refl (pos m) = eqb_refl m
@@ -35,6 +39,8 @@ same_sound (x ∷ a) (y ∷ b) h =
     let u = eq_z_sound x y (both_l (eq_z x y) _ h) in
     let v = same_sound a b (both_r (eq_z x y) _ h) in
     λ i. u i ∷ v i
+same_sound [] (y ∷ b) h = elim h [ ]
+same_sound (x ∷ a) [] h = elim h [ ]
 
 pub same_refl : (a : List ℤ) → T (same a a)
 same_refl [] = tt
@@ -60,6 +66,7 @@ degree-make n (suc m) h = lt→ltb m n h
 
 pub at-degree : (k c : ℕ) → T (eq_z (pos k) (degree_word c)) → suc k ≡ c
 at-degree k (suc m) h = ap suc (eqb→eq k m h)
+at-degree k zero h = elim h [ ]
 
 pub at_degree' : (k c : ℕ) → suc k ≡ c → T (eq_z (pos k) (degree_word c))
 at_degree' k zero e = absurd (lt_irrefl 0 (omega arith))

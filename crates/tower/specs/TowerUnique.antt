@@ -17,9 +17,9 @@ use Rattle.algebra.specs.Vec.{Vec, coef, trunc, zeroᵛ, topped, coef-zero}
 use Rattle.algebra.specs.Series.{const}
 use Rattle.algebra.specs.Quotient.{one-is}
 use Rattle.tower.specs.Levels.{degree, El, is_zero, Tower, ring, zero_test, Ones, fewer, one_not_zero}
-use Rattle.tower.specs.Writing.{size, size_suc, modulus_size, writes, reads, writes_long, degree_and, behind_degree, write, read, unslot, tower_words, tower_of}
+use Rattle.tower.specs.Writing.{size, size_suc, modulus_size, writes, reads, writes_long, degree_and, behind_degree, write, unslot, tower_words, tower_of}
 use Rattle.tower.specs.Form.{eq_z, same, copies, zero_words, is_in_form, one_words, modulus_over, modulus_form, tower_form}
-use Rattle.tower.specs.Lists.{eq_z_sound, same_sound, same_eq, append_nil}
+use Rattle.tower.specs.Lists.{eq_z_sound, same_sound, same_eq}
 use Rattle.tower.specs.Coding.{Coding, Counts, count_unique, reads-writes, block_writes, writes-zero, writes_front}
 use Rattle.tower.specs.Unique.{Exactly, coding}
 

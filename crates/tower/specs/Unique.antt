@@ -53,6 +53,7 @@ module _ (p : ℕ) (p_pos : 0 < p) (d : List ℕ) where
   one_word [] h = absurd h
   one_word (pos n ∷ []) h = ap (λ m. pos m ∷ []) (mod-eq_of_lt (ltb→lt n p h))
   one_word (x ∷ y ∷ w) h = absurd (lt_irrefl 0 (omega (arith, eqb→eq (length (x ∷ y ∷ w)) 1 (both_l (eqb (length (x ∷ y ∷ w)) 1) _ h))))
+  one_word (negsuc _ ∷ []) h = elim h [ ]
 
   pub laws : (n : ℕ) → Laws n
   unfolding write read is_in_form zero_words

@@ -20,7 +20,7 @@ pub const MOST_CHANGED: usize = 70000;
 
 // Where the words of a list stand among the numbers. A list that is not all there has no words and
 // stands behind the last number.
-#[derive(Drop)]
+#[derive(Clone, Copy)]
 pub struct Part {
     pub start: usize,
     pub end: usize,

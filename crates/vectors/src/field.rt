@@ -10,7 +10,7 @@ use text::numbers::number_of;
 const MOST_DIGITS: usize = 19;
 
 // The calls that a line can name.
-#[derive(Drop)]
+#[derive(Clone, Copy)]
 pub enum Call {
     Fraction,
     Sizes,

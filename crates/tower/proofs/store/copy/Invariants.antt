@@ -1,0 +1,11 @@
+-- `store::copy` meets its contract. The loop has written the first k words.
+use Prim.Native.Nat.{◌-◌, ◌≤◌}
+use Rattle.tower.specs.Form.{seg}
+use Rattle.tower.specs.Store.{Put}
+use Rattle.tower.proofs.store.copy.Given as goal
+
+abbrev pub invariant-loop-k : goal.invariant-loop-k
+invariant-loop-k l = (l.k ≤ l.n) × Put l.to (seg l.from l.k l.initial.w) l.initial.w l.w
+
+abbrev pub decreases-loop-k : goal.decreases-loop-k
+decreases-loop-k l = l.n - l.k
