@@ -324,8 +324,8 @@ module _ {x : List ℤ} {a : ℕ} {y : List ℤ} {b n : ℕ} (p : LineReady 4 x 
 
 -- ---- operands in the store or in lent words
 module _ {g : ℕ} {x : List ℤ} {a : ℕ} {y : List ℤ} {b n : ℕ} (p : LineReady g x a y b n) {x' y' : List ℤ} (ex : x ≡ x') (ey : y ≡ y') where
-  pub picked_three : {r : Triple} → ThreeSums x' y' n a b r → ThreeSums x y n a b r
-  picked_three r = rw (← ex, ← ey) at r
+  pub picked_three : (r : Triple) → ThreeSums x' y' n a b r → ThreeSums x y n a b r
+  picked_three _ r = rw (← ex, ← ey) at r
 
-  pub picked_seven : {r : Septet} → SevenSums x' y' n a b r → SevenSums x y n a b r
-  picked_seven r = rw (← ex, ← ey) at r
+  pub picked_seven : (r : Septet) → SevenSums x' y' n a b r → SevenSums x y n a b r
+  picked_seven _ r = rw (← ex, ← ey) at r

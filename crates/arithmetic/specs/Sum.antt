@@ -5,7 +5,7 @@
 -- gained_places        == an element above level 0 is gained coefficient by coefficient
 -- Gained, RowGained    == what the code on an element, and on a slot, leaves in the store;  WordTerms, Terms, RowTerms == what it asks for
 -- gained_number         == the same of residues, as numbers
-use Rattle.std.specs.Prelude.{ℕ, zero, suc, ◌+◌, ◌-◌, ◌*◌, ◌%◌, ◌<◌, ◌≤◌, ◌≡◌, refl, Bool, true, false, List, [], ◌∷◌, ℤ, pos, length, get_or}
+use Rattle.std.specs.Prelude.{ℕ, ◌+◌, ◌-◌, ◌*◌, ◌%◌, ◌<◌, ◌≤◌, ◌≡◌, Bool, true, false, List, [], ◌∷◌, ℤ, pos, length, get_or}
 use Rattle.std.proofs.Common.{sym, ap, ap₂, ◌∙◌}
 use Rattle.algebra.specs.Ring.{Group, negative_zero}
 use Rattle.algebra.specs.Vec.{Vec, coef, trunc, vec_group, negᵛ, coef_inj, coef-trunc, trunc-at, coef_below, coef-add, coef-neg}
