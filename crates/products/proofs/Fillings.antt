@@ -2,31 +2,30 @@
 --
 -- Filling                              == k coefficients are made, and the words of those to come are as before
 -- filling_start, -asks, -next, -end    == at the beginning; what the next product asks for; what it leaves; at the end
-use Prim.Native.Nat.{ℕ, suc, ◌+◌, ◌-◌, ◌*◌, ◌^◌, ◌<◌, ◌≤◌}
+use Prim.Native.Nat.{ℕ, suc, ◌+◌, ◌*◌, ◌^◌, ◌<◌, ◌≤◌}
 use native.Mathlib.Nat.{mul-le-mul_left, mul-le-mul_right, suc-mul, lt_irrefl}
 use native.Mathlib.Omega.{arith}
 use mathlib.Core.Path.{◌≡◌, refl, ap, sym, ◌∙◌, subst}
-use mathlib.Core.Bool.{Bool, true, false, ◌&&◌}
+use mathlib.Core.Bool.{Bool, true, false}
 use mathlib.Core.Logic.{◌⊎◌, inl, inr}
 use mathlib.Core.List.{List}
-use lib.Dec.{T, ltb, ltb→lt, lt→ltb}
+use lib.Dec.{T, ltb→lt, lt→ltb}
 use lib.IntN.{ℤ}
-use lib.ListN.{length, get_or, set, length-set}
+use lib.ListN.{length, set, length-set}
 use lib.Seq.{get_or-set_same, get_or-set_other}
-use Rattle.algebra.specs.Test.{le_or_lt, both_l, both_r}
+use Rattle.algebra.specs.Test.{le_or_lt}
 use Rattle.algebra.specs.Vec.{coef_below, coef-zero}
 use Rattle.tower.specs.Levels.{degree, El, group, Tower}
-use Rattle.tower.specs.Writing.{size, size_suc, size-pos, tower_size}
+use Rattle.tower.specs.Writing.{size, size_suc, size-pos}
 use Rattle.tower.specs.Form.{seg}
-use Rattle.tower.specs.Lists.{seg-seg, seg_long}
 use Rattle.tower.specs.Store.{Kept, kept_refl, kept_trans}
 use Rattle.tower.specs.Stands.{Stands}
 use Rattle.arithmetic.specs.Places.{keeps_at, wide}
 use Rattle.arithmetic.specs.Rows.{block_inside}
 use Rattle.arithmetic.specs.Sum.{gained}
 use Rattle.arithmetic.specs.Walk.{pick, place_of}
-use Rattle.products.specs.Value.{part, part_stands}
-use Rattle.products.specs.Product.{Worked, work, work_suc, TowerStands, Two, Given, Spread, Pairs, ProductReady, ProductDone, CoefficientsReady, CoefficientsDone}
+use Rattle.products.specs.Value.{part}
+use Rattle.products.specs.Product.{work, work_suc, TowerStands, Two, Given, Spread, Pairs, ProductReady, ProductDone, CoefficientsReady, CoefficientsDone}
 use Rattle.products.proofs.Frames.{worked_kept, same-seg, worked_same, inside_kept, operating_kept, tower-kept, lefts_kept, rights_kept}
 
 -- ---- which coefficients keep old content

@@ -5,16 +5,15 @@
 -- SameIn, picked_seg      == the same of an operand, where it is in the store;  elements_picked, inside_kept, operating_kept == so it is as it was
 -- zeros_stand             == zeros written stand there
 -- tower-kept, lefts_kept, rights_kept, given_kept == what stands below top stays while words from top on change
-use Prim.Native.Nat.{ℕ, suc, ◌+◌, ◌*◌, ◌<◌, ◌≤◌}
+use Prim.Native.Nat.{ℕ, ◌+◌, ◌*◌, ◌<◌, ◌≤◌}
 use native.Mathlib.Nat.{mul-le-mul_right, add-mul}
 use native.Mathlib.Omega.{arith}
-use mathlib.Core.Path.{◌≡◌, refl, ap, sym, ◌∙◌, subst}
+use mathlib.Core.Path.{◌≡◌, refl, ap, sym, ◌∙◌}
 use mathlib.Core.Bool.{Bool, true, false}
 use mathlib.Core.Logic.{◌⊎◌, inl, inr}
 use mathlib.Core.List.{List}
 use lib.IntN.{ℤ, pos}
 use lib.ListN.{length, get_or}
-use Rattle.algebra.specs.Test.{le_or_lt}
 use Rattle.algebra.specs.Vec.{coef-zero, zeroᵛ}
 use Rattle.tower.specs.Levels.{El, group, zero_test, Tower}
 use Rattle.tower.specs.Writing.{size, tower_size, write}

@@ -1,4 +1,6 @@
 // Products and remainders of elements at any level of a tower, in one store by a stack discipline.
+#![tactic(auto)]
+
 pub mod lowest;
 pub mod product;
 pub mod unit;

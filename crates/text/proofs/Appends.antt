@@ -5,7 +5,7 @@
 -- then                                    == a text behind a text; right-nested, `then a (then b c)` is of the text s ++ (t ++ u)
 -- retold                                  == another name for the text
 use mathlib.Core.Path.{◌≡◌, refl, sym, ap, ◌∙◌}
-use mathlib.Core.List.{List, [], ◌∷◌, ◌++◌, append_assoc, append_nil}
+use mathlib.Core.List.{List, [], ◌∷◌, ◌++◌, append_assoc, append-nil}
 use Prim.Native.Nat.{ℕ, suc, ◌+◌, ◌<◌, ◌≤◌}
 use native.Mathlib.Numerals.{add-one}
 use native.Mathlib.Omega.{arith}
@@ -23,7 +23,7 @@ pub record Added (was : List ℕ) (held : ℕ) (text out : List ℕ) (i : ℕ) :
 pub none_added : (was : List ℕ) (held : ℕ) (text : List ℕ) → Added was held text was 0
 none_added was held text =
     let e : held + 0 ≡ held = omega arith in
-    record { passed = omega arith; room = refl; holds = rw e (sym (append_nil (take held was))) }
+    record { passed = omega arith; room = refl; holds = rw e (sym (append-nil (take held was))) }
 
 module _ {was : List ℕ} {held : ℕ} {text out : List ℕ} {i : ℕ} (a : Added was held text out i) where
   pub one_added : i < length text → held + length text ≤ length was → Added was held text (set out (held + i) (get_or text i 0)) (i + 1)
@@ -54,7 +54,7 @@ module _ {was : List ℕ} {held : ℕ} {text out : List ℕ} {i : ℕ} (a : Adde
 
 -- ---- whole texts
 pub nothing : (held : ℕ) (out : List ℕ) → Appended held [] out out held
-nothing held out = record { long = refl; end = omega arith; stands = sym (append_nil (take held out)) }
+nothing held out = record { long = refl; end = omega arith; stands = sym (append-nil (take held out)) }
 
 pub then : {held r r' : ℕ} {s t out out' out'' : List ℕ} → Appended held s out out' r → Appended r t out' out'' r'
     → Appended held (s ++ t) out out'' r'

@@ -9,7 +9,7 @@
 -- one_field, two_fields              == a text is its fields with tabs between them
 use mathlib.Core.Path.{◌≡◌, refl, sym, ap, ◌∙◌}
 use mathlib.Core.Bool.{Bool, true, false, cond, ◌&&◌}
-use mathlib.Core.List.{List, [], ◌∷◌, ◌++◌, append_assoc, append_nil}
+use mathlib.Core.List.{List, [], ◌∷◌, ◌++◌, append_assoc, append-nil}
 use Prim.Native.Nat.{ℕ, suc, ◌+◌, ◌-◌, ◌<◌, ◌≤◌}
 use native.Mathlib.Numerals.{add-one}
 use native.Mathlib.Omega.{arith}
@@ -147,7 +147,7 @@ module _ {s : List ℕ} {from i : ℕ} (p : Passed s from i) where
             p.rest
             ∙ ap (λ (t : List ℕ). before_all (part s from i) (fields_of t)) (drop-cons s i 0 h)
             ∙ ap (before_all (part s from i)) (fields_tab (get_or s i 0) (drop (suc i) s) e)
-            ∙ ap (λ (t : List ℕ). t ∷ fields_at s (suc i)) (append_nil (part s from i));
+            ∙ ap (λ (t : List ℕ). t ∷ fields_at s (suc i)) (append-nil (part s from i));
       }
 
   pub at_end : length s ≤ i → Ends s from i
@@ -162,7 +162,7 @@ module _ {s : List ℕ} {from i : ℕ} (p : Passed s from i) where
             ∙ ap (λ (n : ℕ). before_all (part s from n) (fields_at s n)) e
             ∙ ap (λ (t : List ℕ). before_all (part s from (length s)) (fields_of t)) (drop-length s)
             ∙ ap (before_all (part s from (length s))) fields_nil
-            ∙ ap (λ (t : List ℕ). t ∷ []) (append_nil (part s from (length s)) ∙ part_end s from);
+            ∙ ap (λ (t : List ℕ). t ∷ []) (append-nil (part s from (length s)) ∙ part_end s from);
         more = λ q. absurd (omega arith);
       }
 

@@ -11,7 +11,7 @@
 use Rattle.std.specs.Prelude.{◌≡◌, refl, Bool, true, false, cond, ◌⊎◌, ℕ, zero, suc, ◌+◌, ◌-◌, ◌*◌, ◌/◌, ◌%◌, ◌^◌, ◌<◌, ◌≤◌, eqb, ℤ, pos, negsuc, nat_abs, length, get_or}
 use Rattle.std.proofs.Common.{sym, ap, ◌∙◌, inl, inr, ⊎_elim, pow-suc, mod-lt, div-add-mod', div-lt_iff_lt-mul, arith, lt-ltb, le-ltb, le-leb, ne_eqb, lit<, length-append}
 use mathlib.Core.List.Memᴰ
-use mathlib.Core.List.{List, [], ◌∷◌, ◌++◌, map, append_assoc, append_nil, Memᴰ}
+use mathlib.Core.List.{List, [], ◌∷◌, ◌++◌, map, append_assoc, append-nil, Memᴰ}
 use Rattle.std.proofs.Math.Nat.{pow-zero}
 use Rattle.algebra.specs.Test.{le_or_lt}
 use Rattle.text.specs.declared.Digits.TheVariants.{Value}
@@ -126,7 +126,7 @@ first_byte (b ∷ s) h = Memᴰ.head refl
 magnitude_again : (j n : ℕ) → n < 10 ^ suc j → n < 2 ^ 64 → magnitude_of (suc j) (decimal n) ≡ Value n
 magnitude_again j n h l =
     all_of (suc j) (decimal n) (some_digit n) (few_digits j n h)
-    ∙ ap (digits_of 0) (sym (append_nil (decimal n)))
+    ∙ ap (digits_of 0) (sym (append-nil (decimal n)))
     ∙ digits_again 20 n [] (omega arith)
     ∙ digits_nil n
 
@@ -208,7 +208,7 @@ unfolding words_from
 words-cons w f fs = refl
 
 words_behind : (w l : List ℤ) → AllShort l → length w + length l ≤ most_words → words_from w (map word_text l) ≡ w ++ l
-words_behind w [] h k = words_nil w ∙ sym (append_nil w)
+words_behind w [] h k = words_nil w ∙ sym (append-nil w)
 words_behind w (a ∷ l) h k =
     words-cons w (word_text a) (map word_text l)
     ∙ ap (λ (r : Number). word_then r w (λ more. words_from more (map word_text l))) (read_again a h.0)

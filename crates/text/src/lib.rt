@@ -1,5 +1,7 @@
 // Texts, which are lists of bytes, and the numbers and words in them, both ways: text gathered in a store, a number as text and text as a number, and the
 // fields of a line.
+#![tactic(auto)]
+
 pub mod bytes;
 pub mod fields;
 pub mod numbers;

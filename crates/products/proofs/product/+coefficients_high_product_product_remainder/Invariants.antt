@@ -1,0 +1,33 @@
+-- What falls round the cycle, and what a call asks for: a product at level j goes down to the coefficients and the remainder of level j - 1.
+use Prim.Native.Nat.{◌+◌, ◌-◌, ◌*◌}
+use Rattle.products.proofs.Fillings.{Filling}
+use Rattle.products.proofs.Remainders.{RowFalling}
+use Rattle.products.specs.Product.{operands}
+use Rattle.products.proofs.product.+coefficients_high_product_product_remainder.Given as goal
+
+-- ---- the measures
+abbrev pub decreases-coefficients : goal.decreases-coefficients
+decreases-coefficients l = 3 * l.j + 1
+
+abbrev pub decreases-high_product : goal.decreases-high_product
+decreases-high_product l = 3 * l.j - 1
+
+abbrev pub decreases-product : goal.decreases-product
+decreases-product l = 3 * l.j
+
+abbrev pub decreases-remainder : goal.decreases-remainder
+decreases-remainder l = 3 * l.i + 1
+
+abbrev pub invariant-coefficients-loop-k : goal.invariant-coefficients-loop-k
+invariant-coefficients-loop-k l =
+    Filling l.j l.d l.p l.m l.e l.e_in l.ea (operands l.o l.x l.y) l.neg l.keep l.initial.w l.top l.k l.w
+
+abbrev pub decreases-coefficients-loop-k : goal.decreases-coefficients-loop-k
+decreases-coefficients-loop-k l = l.h - l.k
+
+abbrev pub invariant-remainder-loop-k : goal.invariant-remainder-loop-k
+invariant-remainder-loop-k l =
+    RowFalling l.i l.d l.p l.e l.e_in l.ea l.y l.y_in l.b l.g l.initial.w l.a l.cap l.top l.k l.w
+
+abbrev pub decreases-remainder-loop-k : goal.decreases-remainder-loop-k
+decreases-remainder-loop-k l = l.k
