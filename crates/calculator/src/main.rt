@@ -10,7 +10,11 @@ use lines::keeping::{TOWER_WORDS, nothing};
 use lines::lengths::{ANSWER_WORDS, WORK_WORDS};
 use lines::reading::MOST_BYTES;
 use lines::steps::step;
+use std::io::{Read, Stdin};
 use text::fields::MOST_WORDS;
+
+// The number of standard output.
+const STANDARD_OUTPUT: i32 = 1;
 
 // One byte more than a line may have, so that a longer one is seen.
 const LINE_BYTES: usize = MOST_BYTES + 1;
@@ -42,7 +46,7 @@ type Out = [u8; OUT_BYTES];
 
 // What is kept between lines, how many bytes of the next line are gathered, its number, and
 // whether more input may come.
-#[derive(Drop)]
+#[derive(Clone, Copy)]
 struct Reading {
     kept: Kept,
     bytes: usize,
@@ -102,7 +106,7 @@ fn answer(
 {
     let l = step(&text[..n], line, k, words, tower, a, b, g, r, f, v, out);
     let told = l.told;
-    io::write_all(libc::STDOUT_FILENO, &out[..told]);
+    io::write_all(STANDARD_OUTPUT, &out[..told]);
     l
 }
 
@@ -154,8 +158,19 @@ fn feed(
     gather(text, s, byte)
 }
 
+// The next bytes of the input: how many there are, or 0 where it has ended or cannot be read.
+fn read_piece(mut input: Stdin, piece: &mut [u8]) -> usize
+    ensures { result ≤ length piece.new }
+{
+    match input.read(piece) {
+        Ok(n) => n,
+        Err(_) => 0,
+    }
+}
+
 // One piece of the input.
 fn turn(
+    input: Stdin,
     text: &mut Text,
     words: &mut Words,
     tower: &mut Tower,
@@ -173,12 +188,11 @@ fn turn(
 {
     let mut s = before;
     let mut piece = io::large_buffer();
-    let got = libc::read(libc::STDIN_FILENO, &mut piece);
-    if got <= 0 {
+    let n = read_piece(input, &mut piece);
+    if n == 0 {
         s.more = false;
         return s;
     }
-    let n = io::count(got, &piece);
     let mut i: usize = 0;
     while i < n {
         let t = feed(text, words, tower, a, b, g, r, f, v, out, s, piece[i]);
@@ -209,7 +223,7 @@ fn last_line(
     }
 }
 
-fn main() {
+fn main(rt: HostRuntime) {
     let mut text = [0u8; LINE_BYTES];
     let mut words = [0i64; MOST_WORDS];
     let mut tower = [0i64; TOWER_WORDS];
@@ -225,8 +239,18 @@ fn main() {
     let mut turns: u64 = 4611686018427387904;
     while turns > 0 && s.more {
         let t = turn(
-            &mut text, &mut words, &mut tower, &mut a, &mut b, &mut g, &mut r, &mut f, &mut v,
-            &mut out, s,
+            rt.stdin(),
+            &mut text,
+            &mut words,
+            &mut tower,
+            &mut a,
+            &mut b,
+            &mut g,
+            &mut r,
+            &mut f,
+            &mut v,
+            &mut out,
+            s,
         );
         s = t;
         turns -= 1;

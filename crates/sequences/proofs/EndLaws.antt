@@ -19,7 +19,6 @@ use Rattle.tower.specs.Store.{Kept, kept_trans, kept-wide}
 use Rattle.tower.specs.Work.{inverse_work}
 use Rattle.products.specs.Product.{Elements}
 use Rattle.products.proofs.Frames.{worked_kept}
-use Rattle.euclid.specs.Answer.{done}
 use Rattle.euclid.specs.Shown.{shown_words, factor_element}
 use Rattle.euclid.specs.Lazy.{whole}
 use Rattle.sequences.specs.declared.Ended.TheVariants.{Inverse, Divisor}

@@ -26,7 +26,7 @@ use Rattle.arithmetic.specs.Rows.{Top, block_inside, run_of}
 use Rattle.arithmetic.specs.Walk.{pick}
 use Rattle.products.specs.Product.{Worked, TowerStands, Elements}
 use Rattle.products.proofs.Frames.{picked_seg, inside_kept}
-use Rattle.euclid.specs.Answer.{Answer, done, long}
+use Rattle.euclid.specs.Answer.{Answer, done}
 use Rattle.euclid.specs.Lazy.{led, unit_times}
 use Rattle.euclid.specs.Towers.{Shown, inv}
 use Rattle.sequences.specs.declared.Outcome.{Outcome}

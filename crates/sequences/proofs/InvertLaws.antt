@@ -20,7 +20,6 @@ use Rattle.tower.specs.Work.{inverse_work}
 use Rattle.tower.specs.Writing.{size}
 use Rattle.products.specs.Product.{Worked}
 use Rattle.products.proofs.Frames.{worked_trans, worked-answer, worked-above}
-use Rattle.euclid.specs.Answer.{done, long}
 use Rattle.euclid.specs.Shown.{shown_fits}
 use Rattle.euclid.specs.Towers.{shown_level, inv}
 use Rattle.sequences.specs.declared.Ended.{Ended}

@@ -7,7 +7,7 @@
 -- Away, Besides             == a place outside a run of words; what a turn's end may change
 -- Followed                  == what the end of a turn comes to
 -- FollowReady, FollowDone   == the end of a turn: the remainder's leading coefficient is inverted
-use Rattle.std.specs.Prelude.{ℕ, suc, ◌+◌, ◌*◌, ◌^◌, ◌<◌, ◌≤◌, ◌≡◌, Bool, true, ◌⊎◌, List, ℤ, pos, length, get_or}
+use Rattle.std.specs.Prelude.{ℕ, suc, ◌+◌, ◌*◌, ◌^◌, ◌<◌, ◌≤◌, ◌≡◌, Bool, ◌⊎◌, List, ℤ, pos, length, get_or}
 use Rattle.algebra.specs.Shape.{Shape, null, lead, strip}
 use Rattle.algebra.specs.Vec.{trunc}
 use Rattle.residue.specs.Number.{Modulus}

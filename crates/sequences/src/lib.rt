@@ -1,5 +1,7 @@
 // The remainder sequences in one store: inverse of an element, GCD of two polynomials. No remainder is scaled: beside each polynomial stands the inverse of
 // its leading coefficient, and the sequence's polynomial is the product of the two.
+#![tactic(auto)]
+
 pub mod gcd;
 pub mod inverse;
 pub mod numbers;

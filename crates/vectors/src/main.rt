@@ -12,10 +12,12 @@ mod output;
 mod polynomials;
 mod remainders;
 
+ghost use Rattle.std.specs.Prelude.{◌≤◌, length};
 ghost use Rattle.vectors.specs.Sound.{Sound};
 
 use crate::field::Call;
 use crate::output::{OUTPUT_BYTES, Output};
+use std::io::{Read, Stdin};
 use text::Number;
 
 // The most numbers of a line. A line that has more asks for no call.
@@ -34,7 +36,7 @@ type Field = [u8; MOST_BYTES];
 // What has been read and not been answered yet: the call that the line's first field names, once
 // it has ended; how many numbers have ended behind it; how many bytes of the next field are kept;
 // the line's number. Then how many bytes wait for output, and whether more input may come.
-#[derive(Drop)]
+#[derive(Clone, Copy)]
 struct Reading {
     call: Call,
     named: bool,
@@ -136,19 +138,28 @@ fn feed(store: &mut Store, field: &mut Field, out: &mut Output, s: Reading, b: u
     t
 }
 
+// The next bytes of the input: how many there are, or 0 where it has ended or cannot be read.
+fn read_piece(mut input: Stdin, piece: &mut [u8]) -> usize
+    ensures { result ≤ length piece.new }
+{
+    match input.read(piece) {
+        Ok(n) => n,
+        Err(_) => 0,
+    }
+}
+
 // One piece of the input.
-fn turn(store: &mut Store, field: &mut Field, out: &mut Output, before: Reading) -> Reading
+fn turn(input: Stdin, store: &mut Store, field: &mut Field, out: &mut Output, before: Reading) -> Reading
     requires { Sound before }
     ensures { Sound result }
 {
     let mut s = before;
     let mut piece = io::large_buffer();
-    let got = libc::read(libc::STDIN_FILENO, &mut piece);
-    if got <= 0 {
+    let n = read_piece(input, &mut piece);
+    if n == 0 {
         s.more = false;
         return s;
     }
-    let n = io::count(got, &piece);
     let mut i: usize = 0;
     while i < n {
         let t = feed(store, field, out, s, piece[i]);
@@ -178,7 +189,7 @@ fn end_input(store: &mut Store, field: &mut Field, out: &mut Output, s: Reading)
     output::flush(out, t.held);
 }
 
-fn main() {
+fn main(rt: HostRuntime) {
     let mut store = [0i64; MOST_NUMBERS];
     let mut field = [0u8; MOST_BYTES];
     let mut out = [0u8; OUTPUT_BYTES];
@@ -186,7 +197,7 @@ fn main() {
     // More pieces than any input has.
     let mut turns: u64 = 4611686018427387904;
     while turns > 0 && s.more {
-        let t = turn(&mut store, &mut field, &mut out, s);
+        let t = turn(rt.stdin(), &mut store, &mut field, &mut out, s);
         s = t;
         turns -= 1;
     }

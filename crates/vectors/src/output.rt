@@ -8,6 +8,9 @@ ghost use Rattle.std.specs.Prelude.{◌≤◌};
 use residue::magnitude;
 use text::bytes::append;
 
+// The number of standard output.
+const STANDARD_OUTPUT: i32 = 1;
+
 // How many bytes the store has.
 pub const OUTPUT_BYTES: usize = 65536;
 
@@ -23,7 +26,7 @@ fn within(held: usize, most: usize) -> usize
 // Writes what is held.
 pub fn flush(out: &[u8], held: usize) {
     let n = within(held, out.len());
-    io::write_all(libc::STDOUT_FILENO, &out[..n]);
+    io::write_all(STANDARD_OUTPUT, &out[..n]);
 }
 
 // The text, after what is held was written where there is no room for both.
@@ -36,7 +39,7 @@ pub fn put(out: &mut Output, held: usize, text: &[u8]) -> usize {
     if text.len() <= OUTPUT_BYTES {
         return append(out, 0, text);
     }
-    io::write_all(libc::STDOUT_FILENO, text);
+    io::write_all(STANDARD_OUTPUT, text);
     0
 }
 
