@@ -46,7 +46,7 @@ def crates():
             text = text.split("#")[0].strip()
             if text:
                 name, below = text.split(":")
-                named[name] = below.split()
+                named[name.split()[0]] = below.split()
     return {name: [b for b in below if b in named] for name, below in named.items()}
 
 

@@ -32,7 +32,7 @@ def arguments():
                     "Files are of random bytes, valid, or nearly valid. Where the two "
                     "differ, the seed is told, the file is put into the temporary "
                     "folder, and the exit status is 1.",
-        epilog="Example: python3 second/stress.py --seconds 600 target/bin/calculator. "
+        epilog="Example: python3 second/stress.py --seconds 600 crates/calculator/out/calculator. "
                "A seed alone makes its file: --seconds 0 --seed N runs that one again.")
     parser.add_argument("--seconds", type=float, default=60, metavar="S",
                         help="start no file after so many seconds (60); the first one "

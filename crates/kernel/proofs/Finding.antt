@@ -24,13 +24,13 @@ use Rattle.kernel.specs.Parts.{SoughtDone}
 use Rattle.kernel.specs.Shape.{ShapeOf}
 use Rattle.kernel.specs.declared.Shape.{Shape}
 use Rattle.kernel.specs.Promises.{GcdGiven}
-use Rattle.kernel.specs.Refusals.{factor, refused}
+use Rattle.kernel.specs.Refusals.{refused}
 use Rattle.kernel.specs.SlotLaws.{held_below, held-top, held_few, held-words}
 use Rattle.kernel.specs.SlotMeaning.{length_iff, form_iff}
 use Rattle.kernel.specs.Slots.{degree_count, coefficients_in, polynomial_of, Changed, cleared}
 use Rattle.kernel.specs.declared.Answer.{Answer as CallAnswer}
 use Rattle.kernel.specs.declared.Answer.TheVariants.{Refused}
-use Rattle.euclid.specs.Answer.{Answer, long}
+use Rattle.euclid.specs.Answer.{Answer}
 use Rattle.euclid.specs.Gcd.{Made, nothing, gcd as gcd-of}
 use Rattle.euclid.specs.Steps.{gcd-same}
 use Rattle.euclid.specs.Towers.{Shown}

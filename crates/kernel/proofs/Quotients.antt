@@ -75,9 +75,11 @@ number_bad true x f h = let z : ◌≡◌ {A = ℕ} 0 1 = cc in absurd (lt_irref
 
 number-low : (b x : Bool) (f : T b → Bool) → T b → x ≡ false → fraction_number_by b x f ≡ 10
 number-low true x f t h = rw h refl
+number-low false x f t h = elim t [ ]
 
 number_by : (b x : Bool) (f : T b → Bool) (t : T b) → x ≡ true → (y : Bool) → f t ≡ y → fraction_number_by b x f ≡ unless y 10 0
 number_by true x f t h y k = rw (h, k) refl
+number_by false x f t h y k = elim t [ ]
 
 module _ (p n e : ℤ) where
   number_is : fraction_number p e ≡ fraction_number_by (p_ok p) (lt_z (pos 0) e) (λ h. is_given (inverse_of p e h))
@@ -116,6 +118,7 @@ module _ (p n e : ℤ) where
         go : (a : Answered) → r.answer ≡ a → QuotientBy a n (num e) (num p) r → FractionGiven p n e r
         go Done h q = fraction_done q
         go (Refused k) h q = fraction_shared q
+        go (Rattle.kernel.specs.declared.Answer.TheVariants.Factor _) h q = elim q [ ]
 
 -- ---- what the call learns from its tests
 pub e_told : {e : ℤ} → SFits w64 e → (b : Bool) → le_z (wordZ w64 (of_z w64 e)) (pos 0) ≡ b → lt_z (pos 0) e ≡ not b

@@ -87,13 +87,18 @@ module _ (p : ℕ) (positive : 0 < p) (e : ℕ) where
 module _ (p e : ℕ) where
   given_coprime : (r : Answer ℕ (Residue p)) → Found p e r → T (is_given r) → (k : ℕ) → k ∣ p → k ∣ e → k ≤ 1
   given_coprime (done-with u) f h = f.0
+  given_coprime (shown _) f h = elim h [ ]
+  given_coprime long f h = elim f [ ]
 
   coprime_given : (r : Answer ℕ (Residue p)) → Found p e r → ((k : ℕ) → k ∣ p → k ∣ e → k ≤ 1) → T (is_given r)
   coprime_given (done-with u) f h = tt
   coprime_given (shown d) f h = absurd (omega (arith, f.0, h d f.1 f.2))
+  coprime_given long f h = elim f [ ]
 
   common_of : (r : Answer ℕ (Residue p)) → Found p e r → T (not (is_given r)) → Common p e
   common_of (shown d) f h = record { divisor = d; above = f.0; of_p = f.1; of_e = f.2 }
+  common_of (done-with _) f h = elim h [ ]
+  common_of long f h = elim f [ ]
 
   mod_z_small : (n : ℤ) → 0 < p → mod_z n p < p
   mod_z_small (pos m) h = mod-lt m h
@@ -110,11 +115,15 @@ module _ (p e : ℕ) where
       let m = mod_z n p in
       let swap : m * u.0 * e ≡ m * (u.0 * e) = omega arith in
       record { small = mod-lt (m * u.0) l; times = mul_mod_l (m * u.0) e p ∙ ap (λ x. x % p) swap ∙ cancel m u.0 (mod_z_small n l) f.1 }
+  residue-is n l (shown _) f h = elim h [ ]
+  residue-is n l long f h = elim f [ ]
 
   residue_only : (n : ℤ) (r : Answer ℕ (Residue p)) → Found p e r → T (is_given r) → (x : ℕ) → ResidueOf p n e x → x ≡ times_given p n r
   residue_only n (done-with u) f h x k =
       let swap : x * e * u.0 ≡ x * (u.0 * e) = omega arith in
       sym (ap (λ y. (y * u.0) % p) (sym k.times) ∙ mul_mod_l (x * e) u.0 p ∙ ap (λ y. y % p) swap ∙ cancel x u.0 k.small f.1)
+  residue_only n (shown _) f h x k = elim h [ ]
+  residue_only n long f h x k = elim f [ ]
 
 -- ---- the sign of e
 not_above : (e : ℤ) → T (not (lt_z (pos 0) e)) → T (le_z e (pos 0))

@@ -195,6 +195,9 @@ module _ (p n : ℤ) (e t c r f v : List ℤ) where
   given (suc (suc (suc (suc (suc (suc (suc zero))))))) h = behind h.element 7 (inl (short_iff.1 h.short, refl))
   given (suc (suc (suc (suc (suc (suc (suc (suc (suc zero))))))))) h =
       behind h.element 9 (inr (work_iff.1 h.work, inl ((not_not is_zero).1 ((is-zero_iff h.element).1 h.is_zero), refl)))
+  given (suc (suc (suc (suc (suc (suc zero)))))) h = elim h [ ]
+  given (suc (suc (suc (suc (suc (suc (suc (suc zero)))))))) h = elim h [ ]
+  given (suc (suc (suc (suc (suc (suc (suc (suc (suc (suc _)))))))))) h = elim h [ ]
 
   inverse_means : Means (inverse_number p n e t c r f v) InverseMeans
   unfolding inverse_number

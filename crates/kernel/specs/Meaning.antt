@@ -152,6 +152,7 @@ module _ (p n : ℤ) (e t : List ℤ) where
       let s = shape_tests n e r.shape in
       let bad = not_T (tower_form (num p) (degrees_of e) (num n) t) (λ f. (let x = (form-held p n e r t).0 f in h.none x.this x.holds)) in
       first-is (tower_table p n e t) 3 (inr (r.modulus, inr (s.0, inr (s.1.0, inr (s.1.1.0, inl (bad, refl))))))
+  tower_given (suc (suc (suc (suc _)))) h = elim h [ ]
 
   -- the same of what the call says
   pub tower-answers : (k : ℕ) → (check_tower p n e t ≡ refusal k) ↔ TowerMeans p n e t k
@@ -174,6 +175,7 @@ module _ (p n : ℤ) (e t : List ℤ) where
         go (suc zero) h = one h
         go (suc (suc zero)) h = two h
         go (suc (suc (suc zero))) h = three h
+        go (suc (suc (suc (suc _)))) h = elim h [ ]
 
     pub then_given : (j : ℕ) → TowerMeans p n e t j → first (tower_table p n e t ++ rows) ≡ and_then j (first rows)
     then_given j h = tower_behind ∙ ap (λ x. and_then x (first rows)) (tower_given j h)

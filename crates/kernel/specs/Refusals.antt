@@ -156,6 +156,7 @@ passed_of (row ∷ rows) n h =
 
 unless-passed : (b : Bool) (k r : ℕ) → T b → r ≡ 0 → unless b k r ≡ 0
 unless-passed true k r t h = h
+unless-passed false k r t h = elim t [ ]
 
 pub first_of : (t : Table) → Passed t → first t ≡ 0
 first_of [] h = refl
@@ -180,7 +181,10 @@ first-is (row ∷ rows) k (inl h) = here (row.1 tt) h.0 ∙ h.1
   where
     here : (b : Bool) → T (not b) → unless b row.0 (first rows) ≡ row.0
     here false h = refl
+    here true h = elim h [ ]
 first-is (row ∷ rows) k (inr h) = later (row.1 tt) h.0 ∙ first-is rows k h.1
   where
     later : (b : Bool) → T b → unless b row.0 (first rows) ≡ first rows
     later true h = refl
+    later false h = elim h [ ]
+first-is [] k x' = elim x' [ ]

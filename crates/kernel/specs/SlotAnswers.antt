@@ -246,6 +246,7 @@ module _ (p n : ℤ) (e t a b : List ℤ) (Long Out : Type 0) (c : List ℤ) (r 
     given (suc (suc (suc (suc (suc (suc (suc (suc zero)))))))) h =
         let x = (told.monic_told h.slots).1 h.more in
         behind h.slots 8 (inr (x.0, inl (x.1, refl)))
+    given (suc (suc (suc (suc (suc (suc (suc (suc (suc _))))))))) h = elim h [ ]
 
     pub lent_means : Means (first (tower_table p n e t ++ lent_rows p n e a b lengths room work monic)) M
     lent_means = record { says = then_says p n e t rows M (λ x. x) (λ x. x) (λ x. x) of_rows; only = given }

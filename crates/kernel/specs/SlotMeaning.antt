@@ -173,6 +173,7 @@ module _ (p n : ℤ) (e t a : List ℤ) where
   slot_given (suc (suc (suc (suc (suc zero))))) h =
       then_given p n e t rows 0 h.tower
       ∙ first-is rows 5 (inr ((length_iff n e a).1 h.room, inl ((none_iff p n e h.tower.range.modulus a).1 h.none, refl)))
+  slot_given (suc (suc (suc (suc (suc (suc _)))))) h = elim h [ ]
 
   -- the same of what the call says
   pub slot-answers : (j : ℕ) → (check_slot p n e t a ≡ refusal j) ↔ SlotMeans p n e t a j

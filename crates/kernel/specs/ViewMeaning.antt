@@ -66,6 +66,7 @@ module _ (p n : ℤ) (e t a b : List ℤ) where
       used (suc (suc (suc (suc (suc (suc zero)))))) h = absurd (omega (arith, h.small))
       used (suc (suc (suc (suc (suc (suc (suc zero))))))) h = absurd h.more
       used (suc (suc (suc (suc (suc (suc (suc (suc zero)))))))) h = absurd h.more
+      used (suc (suc (suc (suc (suc (suc (suc (suc (suc _))))))))) h = elim h [ ]
 
   -- ---- no number
   pub record Viewed : Type 0 where

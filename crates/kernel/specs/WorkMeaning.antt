@@ -81,6 +81,10 @@ module _ (n : ℤ) (e : List ℤ) (a b : ℤ) where
       not_T (work_degree a && work_degree b)
       (λ t. h.out ((work-degree_range a).0 (both_l (work_degree a) _ t)) ((work-degree_range b).0 (both_r (work_degree a) _ t))) in
       first-is (work_table n e a b) 5 (inr (s.0, inr (s.1.0, inr (s.1.1.0, inl (bad, refl)))))
+  work_given (suc zero) h = elim h [ ]
+  work_given (suc (suc (suc zero))) h = elim h [ ]
+  work_given (suc (suc (suc (suc zero)))) h = elim h [ ]
+  work_given (suc (suc (suc (suc (suc (suc _)))))) h = elim h [ ]
 
   -- ---- what the call says and gives
   said-is : (k m i g : ℕ) → (sizes_by k m i g).said ≡ refusal k

@@ -1,6 +1,8 @@
 // The public calls. None has a `requires`: what a call cannot do it refuses, by the first number of document 01's table that applies. What each gives is in
 // specs/Calls.antt, Views.antt, Sums.antt, Products.antt, Divisions.antt, Inverses.antt and Gcds.antt, and the promises cite it by name (specs/Promises.antt).
 // The modules are private: what stands in them is no call.
+#![tactic(auto)]
+
 mod divisions;
 mod fractions;
 mod gcds;
