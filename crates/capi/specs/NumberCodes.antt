@@ -3,14 +3,14 @@
 -- written_by                 == what a lent place holds afterwards: what is given with Done, and what it held beside a number
 -- SizesCoded, FractionCoded == the kernel's promise of the call, its answer told as a number
 -- .. -coded-determined      == two results that a promise allows are equal
--- .. -said-plain            == what the kernel's call answers is plain;  .. -code-tells == the number tells which answer it is
-use Rattle.std.specs.Prelude.{ℕ, zero, suc, ◌≤◌, ◌≡◌, List, [], ◌∷◌, ◌↔◌, ◌⊎◌, ℤ}
+-- .. -said-plain            == what the kernel's call answers is plain;  .. -code_tells, that the number tells which answer it is, are in proofs/Codes
+use Rattle.std.specs.Prelude.{ℕ, zero, suc, ◌≤◌, ◌≡◌, List, [], ◌∷◌, ◌⊎◌, ℤ}
 use Rattle.std.proofs.Common.{arith, sym, ◌∙◌, inl, inr}
 use Rattle.kernel.specs.Refusals.{Said, done, factor, refused}
 use Rattle.kernel.specs.Calls.{Sizes, work_number, sizes_by, work_sizes, fraction_number, fraction_by, fraction}
 use Rattle.kernel.specs.WorkMeaning.{work_numbers}
 use Rattle.kernel.specs.FractionMeaning.{fraction_numbers}
-use Rattle.capi.specs.Codes.{code, Plain, code_tells}
+use Rattle.capi.specs.Codes.{code, Plain}
 
 -- "Numbers 1 to 10 leave every lent word as found."
 abbrev pub written_by : {A : Type 0} → Said → A → A → A
@@ -37,10 +37,6 @@ sizes-plain (suc k) m i g l = (omega arith, l)
 pub sizes-said-plain : (n : ℤ) (e : List ℤ) (a b : ℤ) → Plain (work_sizes n e a b).said
 sizes-said-plain n e a b = sizes-plain (work_number n e a b) _ _ _ (omega (arith, work_numbers n e a b))
 
-pub sizes-code_tells : (n : ℤ) (e : List ℤ) (a b : ℤ) (w : List ℕ) (r : ℕ) (w' : List ℕ) → SizesCoded n e a b w r w'
-    → (s : Said) → Plain s → (r ≡ code s) ↔ ((work_sizes n e a b).said ≡ s)
-sizes-code_tells n e a b w r w' h s q = code_tells _ s r (sizes-said-plain n e a b) q h.answer
-
 -- ---- residue of a fraction: the number, and the residue afterwards
 pub record FractionCoded (p n e : ℤ) (u r u' : ℕ) : Type 0 where
   pub answer : r ≡ code (fraction p n e).said
@@ -60,6 +56,3 @@ fraction-said-plain p n e = fraction-plain (fraction_number p e) _ (most (fracti
     most k (inl h) = omega arith
     most k (inr (inl h)) = omega arith
     most k (inr (inr h)) = omega arith
-
-pub fraction-code_tells : (p n e : ℤ) (u r u' : ℕ) → FractionCoded p n e u r u' → (s : Said) → Plain s → (r ≡ code s) ↔ ((fraction p n e).said ≡ s)
-fraction-code_tells p n e u r u' h s q = code_tells _ s r (fraction-said-plain p n e) q h.answer

@@ -3,15 +3,15 @@
 -- sequence_plain           == an answer is plain: with a number that number, and else Done or a level of at most 4
 -- InverseCoded, GcdCoded   == the kernel's promise of the call, its answer told as a number
 -- .. -coded-determined     == two results that a promise allows are equal
--- .. -said-plain           == what the kernel's call answers is plain;  .. -code-tells == the number tells which answer it is
-use Rattle.std.specs.Prelude.{ℕ, zero, suc, ◌≤◌, ◌≡◌, refl, List, ◌↔◌, ◌⊎◌, ℤ}
+-- .. -said-plain           == what the kernel's call answers is plain;  .. -code_tells, that the number tells which answer it is, are in proofs/Codes
+use Rattle.std.specs.Prelude.{ℕ, zero, suc, ◌≤◌, ◌≡◌, refl, List, ◌⊎◌, ℤ}
 use Rattle.std.proofs.Common.{arith, sym, ap, ◌∙◌, subst, inl, inr}
 use Rattle.kernel.specs.Refusals.{Said, done, factor, refused}
 use Rattle.kernel.specs.Inverses.{inverse_number, inverse}
 use Rattle.kernel.specs.InverseMeaning.{inverse_numbers, inverse_refused, inverse-kind, inverse-level}
 use Rattle.kernel.specs.Gcds.{gcd_number, gcd}
 use Rattle.kernel.specs.GcdMeaning.{gcd_numbers, gcd_refused, gcd-kind, gcd-level}
-use Rattle.capi.specs.Codes.{code, Plain, code_tells}
+use Rattle.capi.specs.Codes.{code, Plain}
 
 -- the answer s of a call that gives the number k
 sequence_plain : (s : Said) (k : ℕ) → k ≤ 11 → ((j : ℕ) → k ≡ suc j → s ≡ refused (suc j)) → (k ≡ 0 → (s ≡ done) ⊎ ((l : ℕ) × (s ≡ factor l)))
@@ -40,10 +40,6 @@ inverse-said-plain p n e t c u f v =
     sequence_plain _ (inverse_number p n e t c u f v) (omega (arith, inverse_numbers p n e t c u f v)) (λ j z. ap (λ x. x.said) (inverse_refused p n e t c u f v j z))
     (inverse-kind p n e t c u f v) (inverse-level p n e t c u f v)
 
-pub inverse-code_tells : (p n : ℤ) (e t c u f v : List ℤ) (r : ℕ) (u' f' v' : List ℤ) → InverseCoded p n e t c u f v r u' f' v'
-    → (s : Said) → Plain s → (r ≡ code s) ↔ ((inverse p n e t c u f v).said ≡ s)
-inverse-code_tells p n e t c u f v r u' f' v' h s q = code_tells _ s r (inverse-said-plain p n e t c u f v) q h.answer
-
 -- ---- GCD: the number, and the words of g, of the factor buffer and of the work store afterwards
 pub record GcdCoded (p n : ℤ) (e t a b g f v : List ℤ) (r : ℕ) (g' f' v' : List ℤ) : Type 0 where
   pub answer : r ≡ code (gcd p n e t a b g f v).said
@@ -60,7 +56,3 @@ pub gcd-said-plain : (p n : ℤ) (e t a b g f v : List ℤ) → Plain (gcd p n e
 gcd-said-plain p n e t a b g f v =
     sequence_plain _ (gcd_number p n e t a b g f v) (omega (arith, gcd_numbers p n e t a b g f v)) (λ j z. ap (λ x. x.said) (gcd_refused p n e t a b g f v j z))
     (gcd-kind p n e t a b g f v) (gcd-level p n e t a b g f v)
-
-pub gcd-code_tells : (p n : ℤ) (e t a b g f v : List ℤ) (r : ℕ) (g' f' v' : List ℤ) → GcdCoded p n e t a b g f v r g' f' v'
-    → (s : Said) → Plain s → (r ≡ code s) ↔ ((gcd p n e t a b g f v).said ≡ s)
-gcd-code_tells p n e t a b g f v r g' f' v' h s q = code_tells _ s r (gcd-said-plain p n e t a b g f v) q h.answer

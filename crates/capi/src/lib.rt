@@ -5,6 +5,8 @@
 // Nothing checks a caller's pointers: each must be valid and aligned, each list as long as its length says, degrees four words and sizes three; and what a
 // call may write (a of sum, difference and division, c, q, r, g, the factor buffer, the work store, sizes, residue, start and count) must overlap nothing else
 // that is lent to it.
+#![tactic(auto)]
+
 ghost use Rattle.std.specs.Prelude.{◌≡◌, true, false};
 ghost use Rattle.kernel.specs.Answers.{said};
 ghost use Rattle.capi.specs.Codes.{code, Plain, TowerCoded, SlotCoded, SumCoded, ProductCoded, DivisionCoded};

@@ -15,7 +15,7 @@ use Rattle.tower.specs.Levels.{El, group}
 use Rattle.tower.specs.Limits.{p_ok, p_positive, degrees_of}
 use Rattle.tower.specs.Unique.{slot_coding}
 use Rattle.tower.specs.Writing.{slot}
-use Rattle.euclid.specs.Answer.{Answer, done as done-with, shown, bind, Holds}
+use Rattle.euclid.specs.Answer.{Answer, done as done-with, shown, bind, Holds, long}
 use Rattle.euclid.specs.Gcd.{Made, made, make, make_from, gcd-right-zero, gcd-left-zero, nothing}
 use Rattle.euclid.specs.Level.{Level}
 use Rattle.euclid.specs.Sequence.{Carry}
@@ -172,6 +172,7 @@ module _ (p n : ℤ) (e t a b g f v : List ℤ) (passes : gcd_number p n e t a b
               (fun_ext (λ j. made-monic L.ring d under (all d) i unit j ∙ ap (λ c. L.ring.◌⊗◌ i c) (spread j)));
         })
         go (shown s) q right = inr (record { modulus = m; what = s; is_shown = q; right = right; leaves = leaves (shown s) q })
+        go long q unit = elim unit [ ]
 
   pub gcd_a_zero : (d : ℕ) → degree_count a ≡ 0 → degree_count b ≡ suc d
       → MadeMonic p n e t a b g f v b d ⊎ ShowsIt p n e t a b g f v b d

@@ -16,7 +16,7 @@ use Rattle.kernel.specs.ProductMeaning.{product-two_runs}
 use Rattle.kernel.specs.Refusals.{Said, done, factor, refused}
 use Rattle.text.specs.Text.{tab, decimal}
 use Rattle.lines.specs.Answers.{answer_text, gcd_text, div_text, mul_text, inv_text}
-use Rattle.lines.specs.Names.{line_end, said_ok, said_rem, said_factor}
+use Rattle.lines.specs.Names.{line_end, name_gcd, name_div, name_mul, name_inv, said_ok, said_rem, said_factor}
 use Rattle.lines.specs.Printing.{element_text, slot_text, factor_text}
 
 module _ (name d : List ℕ) {w w' : List ℕ} {f f' : List ℤ} where
@@ -34,22 +34,22 @@ module _ (p n : ℤ) (e t : List ℤ) where
       → gcd_text p n e t a b g f v ≡ gcd_text p n e t a b g' f' v'
   gcd-same a b g g' f f' v v' h k l =
       let same = gcd-two_runs p n e t a b g g' f f' v v' h k l in
-      answer-same _ _ same.answer (λ q. ap (slot_text (degrees_of e) (num n)) (same.words q)) same.buffer
+      answer-same name_gcd (degrees_of e) same.answer (λ q. ap (slot_text (degrees_of e) (num n)) (same.words q)) same.buffer
 
   pub div_same : (a b q q' v v' : List ℤ) → length q ≡ length q' → length v ≡ length v' → div_text p n e t a b q v ≡ div_text p n e t a b q' v'
   div_same a b q q' v v' h l =
       let same = division-two_runs p n e t a b q q' v v' h l in
-      answer-same _ _ same.answer
+      answer-same name_div (degrees_of e) {f = []} {f' = []} same.answer
       (λ x. ap₂ (λ c r. slot_text (degrees_of e) (num n) c ++ (said_rem ++ slot_text (degrees_of e) (num n) r)) (same.quotient x) same.remainder)
       (λ i x. refl)
 
   pub mul-same : (a b c c' v v' : List ℤ) → length c ≡ length c' → length v ≡ length v' → mul_text p n e t a b c v ≡ mul_text p n e t a b c' v'
   mul-same a b c c' v v' h l =
       let same = product-two_runs p n e t a b c c' v v' h l in
-      answer-same _ _ same.answer (λ q. ap (slot_text (degrees_of e) (num n)) (same.words q)) (λ i x. refl)
+      answer-same name_mul (degrees_of e) {f = []} {f' = []} same.answer (λ q. ap (slot_text (degrees_of e) (num n)) (same.words q)) (λ i x. refl)
 
   pub inv-same : (a u u' f f' v v' : List ℤ) → length u ≡ length u' → length f ≡ length f' → length v ≡ length v'
       → inv_text p n e t a u f v ≡ inv_text p n e t a u' f' v'
   inv-same a u u' f f' v v' h k l =
       let same = inverse-two_runs p n e t a u u' f f' v v' h k l in
-      answer-same _ _ same.answer (λ q. ap (element_text (degrees_of e) (num n)) (same.words q)) same.buffer
+      answer-same name_inv (degrees_of e) same.answer (λ q. ap (element_text (degrees_of e) (num n)) (same.words q)) same.buffer

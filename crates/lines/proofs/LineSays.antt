@@ -105,7 +105,7 @@ module _ {s : List ℕ} {from end : ℕ} (e : Ends s from end) where
       poly-first p =
           record {
             carried = (omega arith, read.few);
-            means = ap first read.words ∙ sym (named p refl ∙ named_first _ (words_of (fields_at s (end + 1))) (counted read some));
+            means = ap first read.words ∙ sym (named p refl ∙ named_first (same_text (part s from end) name_b) (words_of (fields_at s (end + 1))) (counted read some));
           }
 
       pub poly_second : same_text (part s from end) name_a ≡ false → same_text (part s from end) name_b ≡ true

@@ -6,7 +6,7 @@
 -- form_again                  == words that are printed, behind `poly` and a, are read as these words
 use Rattle.std.specs.Prelude.{◌≡◌, refl, Bool, true, false, ℕ, zero, suc, ◌*◌, ◌≤◌, ℤ, pos, length, get_or, take}
 use Rattle.std.proofs.Common.{sym, ap, ap₂, ◌∙◌, ⊎_elim, arith, le-leb, length-append, take-suc, length-take-le}
-use mathlib.Core.List.{List, [], ◌∷◌, ◌++◌, map, map-append, append_assoc, append_nil, Memᴰ}
+use mathlib.Core.List.{List, [], ◌∷◌, ◌++◌, map, map-append, append_assoc, append-nil, Memᴰ}
 use Rattle.text.specs.Fields.{fields_of, most_bytes, most_words}
 use Rattle.text.specs.Text.{tab, word_text}
 use Rattle.text.specs.Written.{word_bytes, no_tab, parted, one_field, Short, AllShort, short_text, words_again}
@@ -33,7 +33,7 @@ place_is false w = refl
 -- behind s stand the texts of the words
 pub form_fields : (d : List ℕ) (i : ℕ) (x : List ℤ) (n : ℕ) (s : List ℕ) → n ≤ length x
     → fields_of (s ++ form_text d i x n) ≡ fields_of s ++ map word_text (take n x)
-form_fields d i x zero s h = rw (form-none d i x, append_nil s) (sym (append_nil (fields_of s)))
+form_fields d i x zero s h = rw (form-none d i x, append-nil s) (sym (append-nil (fields_of s)))
 form_fields d i x (suc n) s h =
     let w = get_or x n (pos 0) in
     ap (λ t. fields_of (s ++ t)) (form_more d i x n ∙ ap (λ t. form_text d i x n ++ t) (place_is (degree_at d i n) w))

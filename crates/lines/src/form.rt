@@ -10,7 +10,7 @@ use tower::sizes::size_at;
 // Whether the k-th word of an element of level i is a degree word. Slots are printed as an element of one level more, which has any number of coefficients.
 pub fn degree_at(i: usize, z: [usize; 5], k: usize) -> bool
     requires { (i ≤ 5) × ((d : List ℕ) × Sized d z) }
-    ensures { DegreeTold z i k «r» }
+    ensures { DegreeTold z i k result }
 {
     let mut level = i;
     let mut at = k;
@@ -43,7 +43,7 @@ pub fn put_degree(out: &mut [u8], held: usize, w: i64) -> usize
 // One word, by what it is.
 pub fn put_word(out: &mut [u8], held: usize, degree: bool, w: i64) -> usize
     requires { held + 21 ≤ length out.old }
-    ensures { Appended held (place_text «degree» w) out.old out.new result }
+    ensures { Appended held (place_text degree w) out.old out.new result }
 {
     if degree {
         return put_degree(out, held, w);

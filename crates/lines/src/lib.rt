@@ -1,5 +1,7 @@
 // The calculator's lines, on lists of bytes and words: what a line says, what is kept between lines, and what is printed. The program `calculator` only moves
 // bytes. What a line comes to is in specs/Steps.antt.
+#![tactic(auto)]
+
 pub mod answers;
 pub mod form;
 pub mod keeping;

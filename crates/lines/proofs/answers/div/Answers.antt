@@ -1,0 +1,9 @@
+-- `lines::answers::div` meets its contract: what the call leaves may be printed, and the line is that of its answer. Assumes nothing.
+use Rattle.lines.proofs.Done.{div-ready}
+use Rattle.lines.proofs.answers.div.Goals as goal
+
+pub div_answer-requires : goal.div_answer-requires
+div_answer-requires c =
+    let call = c.division-answer.ensures.given in
+    let level = c.nat.ensures in
+    div-ready call level c.requires.0 c.requires.1

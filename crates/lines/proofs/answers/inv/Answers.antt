@@ -1,0 +1,9 @@
+-- `lines::answers::inv` meets its contract: what the call leaves may be printed, and the line is that of its answer. Assumes nothing.
+use Rattle.lines.proofs.Done.{inv-ready}
+use Rattle.lines.proofs.answers.inv.Goals as goal
+
+pub inv_answer-requires : goal.inv_answer-requires
+inv_answer-requires c =
+    let call = c.inverse-answer.ensures.given in
+    let level = c.nat.ensures in
+    inv-ready call level c.requires.0 c.requires.1
