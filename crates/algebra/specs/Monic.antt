@@ -1,10 +1,9 @@
--- Monic polynomials as divisors in R[z]: a monic polynomial is no zero divisor, it divides what leaves no remainder and nothing else,
--- and two monic polynomials that divide each other are equal. R may have zero divisors.
+-- Monic polynomials as divisors in R[z]: a monic polynomial is no zero divisor, and two monic polynomials that divide each other are equal.
+-- R may have zero divisors. (proofs/Monic.antt: a monic polynomial divides what leaves no remainder and nothing else.)
 --
 -- monic_cancel, dvd_monic_prop  == the quotient by a monic polynomial is unique, so to be divided by it is a proposition
--- dvd_remainder                 == a monic polynomial divides exactly what leaves the remainder zero
 -- monic_antisym                 == two monic polynomials that divide each other are equal
-use Rattle.std.specs.Prelude.{◌≡◌, ◌↔◌, ◌⊎◌, ℕ, suc, ◌+◌, ◌≤◌, ◌<◌}
+use Rattle.std.specs.Prelude.{◌≡◌, ◌⊎◌, ℕ, suc, ◌+◌, ◌≤◌, ◌<◌}
 use Rattle.std.proofs.Math.Path.{refl, ap, sym, fun_ext}
 use Rattle.std.proofs.Common.{ap₂, ◌∙◌, inl, inr, arith, eq-or-lt_of_le}
 use Rattle.std.proofs.Math.Logic.{∥∥₁_elim}
@@ -12,21 +11,21 @@ use mathlib.Core.HLevel.{Σ_prop_path}
 use Rattle.algebra.specs.Test.{le_or_lt}
 use Rattle.algebra.specs.Ring.{CRing, zero-⊗, one-⊗, eq_of_sub}
 use Rattle.algebra.specs.Solve.{◌:-◌, ◌:*◌, ◌≐◌, c1, solve₂}
-use Rattle.algebra.specs.Vec.{Vec, Vec-set, Below, zeroᵛ, topped, below_mono, coef_below, coef-zero, topped-top}
+use Rattle.algebra.specs.Vec.{Vec, Below, topped, below_mono, coef_below, topped-top}
 use Rattle.algebra.specs.Series.{Series, SeriesRing}
 use Rattle.algebra.specs.Poly.{below_all, below_+, below_neg, constᴾ, Poly, crown}
-use Rattle.algebra.specs.Divide.{remainder, quotient, below_quotient, unique_quotient, remainder_is}
+use Rattle.algebra.specs.Divide.{below_quotient, unique_quotient}
 use Rattle.algebra.specs.Divisor.{Dvd}
-use Rattle.algebra.specs.PolyRing.{P, P-path, PolyRing, each, ↑, pol, mon, divided-pol}
+use Rattle.algebra.specs.PolyRing.{P, P-path, PolyRing, each, ↑, mon}
 
 module _ (R : CRing) where
   open R use {Car, 𝟘, 𝟙, ◌⊕◌, ◌⊗◌, ⊖◌, ⊕_neg, is_set}
   open SeriesRing R use {𝟘 as 0ˢ, 𝟙 as 1ˢ, ◌⊕◌ as ◌+ˢ◌, ◌⊗◌ as ◌*ˢ◌, ⊖◌ as -ˢ◌}
-  open PolyRing R use {𝟘 as 0ᴷ, 𝟙 as 1ᴷ, ◌⊕◌ as ◌+ᴷ◌, ◌⊗◌ as ◌*ᴷ◌, ⊖◌ as -ᴷ◌}
+  open PolyRing R use {◌⊗◌ as ◌*ᴷ◌}
 
-  infixl 65 ◌⊕◌ ◌+ˢ◌ ◌+ᴷ◌
+  infixl 65 ◌⊕◌ ◌+ˢ◌
   infixl 70 ◌⊗◌ ◌*ˢ◌ ◌*ᴷ◌
-  infix 75 ⊖◌ -ˢ◌ -ᴷ◌
+  infix 75 ⊖◌ -ˢ◌
   abbrev K : CRing
   K = PolyRing R
 
@@ -50,23 +49,6 @@ module _ (R : CRing) where
         let same = monic_cancel h.times k.times (K.⊗_comm _ _ ∙ sym h.eq ∙ k.eq ∙ K.⊗_comm _ _) in
         let p = Σ_prop_path {B = λ t. x ≡ mon R d w *ᴷ t} (λ t. K.is_set x (mon R d w *ᴷ t)) {u = (h.times, h.eq)} {v = (k.times, k.eq)} same in
         λ i. record { times = (p i).0; eq = (p i).1 }
-
-    pub dvd_remainder : (n : ℕ) (v : Vec Car n) → Dvd K (mon R d w) (pol R n v) ↔ (remainder R d w n v ≡ zeroᵛ 𝟘 d)
-    dvd_remainder n v = (there, back)
-      where
-        there : Dvd K (mon R d w) (pol R n v) → remainder R d w n v ≡ zeroᵛ 𝟘 d
-        there h =
-            ∥∥₁_elim h.times.1 (Vec-set is_set d _ _) (λ b.
-            remainder_is R d w n v b.0 h.times.0 (zeroᵛ 𝟘 d) b.1
-            (ap (λ x. x.0) h.eq ∙ S.⊗_comm _ _ ∙ sym (S.⊕_zero _) ∙ ap (λ f. h.times.0 *ˢ crown R d w +ˢ f) (sym (fun_ext (coef-zero 𝟘 d)))))
-
-        back : remainder R d w n v ≡ zeroᵛ 𝟘 d → Dvd K (mon R d w) (pol R n v)
-        back e = record {
-          times = pol R n (quotient R d w n v);
-          eq = divided-pol R d w n v
-              ∙ ap (λ x. pol R n (quotient R d w n v) *ᴷ mon R d w +ᴷ x) (ap (pol R d) e ∙ P-path R _ _ (coef-zero 𝟘 d))
-              ∙ K.⊕_zero _ ∙ K.⊗_comm _ _;
-        }
 
   -- where 1 = 0 all is equal
   trivial : 𝟙 ≡ 𝟘 → (a b : Car) → a ≡ b

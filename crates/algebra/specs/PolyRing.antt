@@ -1,20 +1,17 @@
 -- R[z] as a commutative ring: coefficient functions with a bound that merely exists, so that two polynomials are equal when their coefficients are.
--- This is where "divides" is said: h divides f when f is h times some polynomial.
+-- This is where "divides" is said: h divides f when f is h times some polynomial. (proofs/PolyRing.antt: division with remainder in R[z].)
 --
 -- P R, PolyRing R  == the polynomials, and their ring;  P-path: equal by coefficients;  each: to show a fact of all, show it of those with a bound
 -- pol, mon, con    == the polynomial with given coefficients; the monic one with given coefficients under its 1; a constant
--- remainder-pol    == the remainder, as an equation in R[z]
 use Rattle.std.specs.Prelude.{◌≡◌, refl, ℕ}
-use Rattle.std.proofs.Common.{ap, sym, ◌∙◌, subst}
+use Rattle.std.proofs.Common.{ap, subst}
 use Rattle.std.proofs.Math.Path.{fun_ext}
 use Rattle.std.proofs.Math.Logic.{∥∥₁_prop, ∥∥₁_map, ∥∥₁_map₂, ∥∥₁_elim}
 use mathlib.Core.HLevel.{Σ_prop_path, Σ_set, prop→set}
 use Rattle.algebra.specs.Ring.{CRing}
-use Rattle.algebra.specs.Solve.{◌:+◌, ◌:-◌, ◌≐◌, solve₂}
 use Rattle.algebra.specs.Vec.{Vec, Below}
 use Rattle.algebra.specs.Series.{Series, SeriesRing, const-inverse}
 use Rattle.algebra.specs.Poly.{Poly, 0ᴾ, constᴾ, ◌+ᴾ◌, -ᴾ◌, ◌*ᴾ◌, poly, monic}
-use Rattle.algebra.specs.Divide.{quotient, remainder, divided}
 use Rattle.algebra.specs.Divisor.{IsUnit}
 
 module _ (R : CRing) where
@@ -67,11 +64,8 @@ module _ (R : CRing) where
     ⊗_dist = λ x y z. P-path _ _ (λ n. ap (λ f. f n) (S.⊗_dist x.0 y.0 z.0));
   }
 
-  open PolyRing use {𝟘 as 0ᴷ, ◌⊕◌ as ◌+ᴷ◌, ◌⊗◌ as ◌*ᴷ◌, ⊖◌ as -ᴷ◌}
+  open PolyRing use {𝟘 as 0ᴷ}
 
-  infixl 65 ◌+ᴷ◌
-  infixl 70 ◌*ᴷ◌
-  infix 75 -ᴷ◌
   abbrev pub pol : (n : ℕ) → Vec Car n → P
   pol n v = ↑ (poly R n v)
 
@@ -86,12 +80,3 @@ module _ (R : CRing) where
 
   pub con_unit : (i c : Car) → i ⊗ c ≡ 𝟙 → IsUnit PolyRing (con i)
   con_unit i c h = record { inv = con c; eq = P-path _ _ (const-inverse R i c h) }
-
-  module _ (d : ℕ) (w : Vec Car d) (n : ℕ) (v : Vec Car n) where
-    pub divided-pol : pol n v ≡ pol n (quotient R d w n v) *ᴷ mon d w +ᴷ pol d (remainder R d w n v)
-    divided-pol = P-path _ _ (λ j. ap (λ f. f j) (divided R d w n v))
-
-    pub remainder-pol : pol d (remainder R d w n v) ≡ pol n v +ᴷ (-ᴷ (pol n (quotient R d w n v) *ᴷ mon d w))
-    remainder-pol =
-        solve₂ PolyRing (pol n (quotient R d w n v) *ᴷ mon d w) (pol d (remainder R d w n v)) (λ a r. r ≐ (a :+ r) :- a) refl
-        ∙ ap (λ x. x +ᴷ (-ᴷ (pol n (quotient R d w n v) *ᴷ mon d w))) (sym divided-pol)

@@ -16,11 +16,13 @@ use Rattle.tower.specs.Limits.{p_ok, p_positive, degrees_of}
 use Rattle.tower.specs.Unique.{slot_coding}
 use Rattle.tower.specs.Writing.{slot}
 use Rattle.euclid.specs.Answer.{Answer, done as done-with, shown, bind, Holds, long}
-use Rattle.euclid.specs.Gcd.{Made, made, make, make_from, gcd-right-zero, gcd-left-zero, nothing}
+use Rattle.euclid.specs.Gcd.{Made, made, make, make_from, gcd-right-zero, nothing}
+use Rattle.euclid.proofs.Gcd.{gcd-left-zero}
 use Rattle.euclid.specs.Level.{Level}
 use Rattle.euclid.specs.Sequence.{Carry}
 use Rattle.euclid.specs.Shown.{shown_words}
-use Rattle.euclid.specs.Towers.{Shown, Right, shown_level, good}
+use Rattle.euclid.specs.Towers.{Shown, Right, shown_level}
+use Rattle.euclid.proofs.Towers.{good}
 use Rattle.kernel.specs.Answered.{factor_buffer, tower_in, level_of}
 use Rattle.kernel.specs.Calls.{coefficients_of, form_ok}
 use Rattle.kernel.specs.GcdAnswers.{gcd_answer, gcd_sequence}

@@ -1,19 +1,16 @@
--- The mathematical part of document 01's figures C5 to C10 and C12 and of the calculator's case, computed on the definitions: one table under one statement.
--- (The calls themselves, with their words and refusals, are held against the figures in demands/specs/Figures.antt.)
-use Rattle.std.specs.Prelude.{◌≡◌, refl, [], ◌∷◌, ℕ}
-use Rattle.std.proofs.Common.{ap, inl, inr, lit<, lt_irrefl, arith}
-use Rattle.algebra.specs.Series.{◌*ˢ◌}
-use Rattle.algebra.specs.Divide.{divide, quotient, remainder}
-use Rattle.algebra.specs.Quotient.{mulᵛ, oneᵛ, residue}
+-- The mathematical part of document 01's figures C5 to C10 and C12 and of the calculator's case: one table under one statement, which proofs/Figures.antt
+-- computes on the definitions. (The calls themselves, with their words and refusals, are held against the figures in demands/specs/Figures.antt.)
+--
+-- Figures  == the table
+-- Misled   == a factor does not mean "not invertible"
+use Rattle.std.specs.Prelude.{◌≡◌, [], ◌∷◌, ℕ}
+use Rattle.std.proofs.Common.{inl, inr, lit<}
+use Rattle.algebra.specs.Divide.{quotient, remainder}
 use Rattle.algebra.specs.Zmod.{Residue, to_z}
 use Rattle.euclid.specs.Answer.{Answer, done, shown}
-use Rattle.euclid.specs.Sequence.{seq}
-use Rattle.euclid.specs.Number.{rows, inverse₀}
 use Rattle.euclid.specs.Level.{Level}
-use Rattle.euclid.specs.Inverse.{inverse}
-use Rattle.euclid.specs.Gcd.{nil, made, make, start, gcd_with, gcd}
-use Rattle.euclid.specs.Towers.{level, shown_level, good}
-use Rattle.euclid.specs.Demand.{inv_shown}
+use Rattle.euclid.specs.Gcd.{nil, made, gcd}
+use Rattle.euclid.specs.Towers.{level, shown_level}
 use Rattle.algebra.specs.Vec.{Vec}
 
 abbrev pub six : ℕ → Residue 6
@@ -95,46 +92,9 @@ pub record Figures : Type 0 where
   pub at_one : at62 (T62.inv (low 1 0, (low 0 1, tt))) ≡ 1
   pub at_zero : at62 (T62.inv (low 1 0, (low 2 0, tt))) ≡ 0
 
-pub figures : Figures
-unfolding gcd_with make start inverse inverse₀ rows seq divide mulᵛ oneᵛ residue ◌*ˢ◌
-figures = record {
-  c5_five = refl;
-  c5_four = refl;
-  c6 = refl;
-  c7 = refl;
-  c8 = refl;
-  c9 = refl;
-  a_first = refl;
-  b_first = refl;
-  c10_both = refl;
-  c10_a_zero = refl;
-  c10_b_zero = refl;
-  c10_factor = refl;
-  c12 = refl;
-  c12_own = refl;
-  calculator_gcd = refl;
-  calculator_quotient = refl;
-  calculator_remainder = refl;
-  two_levels = refl;
-  at_two = refl;
-  at_one = refl;
-  at_zero = refl;
-}
-
 -- A factor does not mean "not invertible": modulo 4 and z² + z + 1, 2 z + 1 is its own inverse, and yet its inverse shows 2 at level 0, which is right.
 pub record Misled : Type 0 where
   pub own_inverse : T4.ring.◌⊗◌ 2z+1 2z+1 ≡ T4.ring.𝟙
   pub yet_shown : T4.inv 2z+1 ≡ shown (inl 2)
   pub at_level : shown_level 4 (2 ∷ []) 1 (inl 2) ≡ 0
   pub is_right : T4.Right (inl 2)
-
-pub invertible_and_shown : Misled
-invertible_and_shown = record {
-  own_inverse = figures.c12_own;
-  yet_shown = figures.c12;
-  at_level = refl;
-  is_right = inv_shown T4 (good 4 (lit< tt) (2 ∷ []) 1 (tt, (four 1, (four 1, tt)))) 2z+1 not_zero (inl 2) figures.c12;
-}
-  where
-    not_zero : ¬ (2z+1 ≡ T4.ring.𝟘)
-    not_zero e = let h : ◌≡◌ {A = ℕ} 1 0 = ap (λ v. v.0.0) e in absurd (lt_irrefl 0 (omega arith))

@@ -11,7 +11,7 @@ use Rattle.algebra.specs.Test.{all_to, all_to_use}
 use Rattle.algebra.specs.Vec.{Vec, topped}
 use Rattle.algebra.specs.Zmod.{Zmod, Residue, to_z, to_z_own}
 use Rattle.algebra.specs.Divide.{remainder, divide}
-use Rattle.algebra.specs.Monic.{dvd_remainder}
+use Rattle.algebra.proofs.Monic.{dvd_remainder}
 use Rattle.tower.specs.Levels.{Tower}
 use Rattle.euclid.specs.Level.{Mon, Factor, Factor₀}
 use Rattle.euclid.specs.Towers.{Free}

@@ -1,33 +1,30 @@
 -- The sequence as a program follows it that does not scale its polynomials: beside each one it keeps the inverse of the leading coefficient, `unit`. The
--- sequence's polynomial is unit times the one that is kept, and so is what it carries.
+-- sequence's polynomial is unit times the one that is kept, and so is what it carries. (proofs/Lazy.antt: how the sequence goes on.)
 --
 -- Led, led, whole, UnitLed      == a polynomial so kept; its coefficients with the leading one; unit is the inverse of that;  unit_times == times unit nothing becomes zero
--- rest, quot R f g              == the remainder and the quotient of f by g as they are kept
+-- rest, quot R f g              == the remainder and the quotient of f by g as they are kept;  rest_scaled == the sequence's remainder is unit times that one
 -- Linear R C                    == what is carried may be scaled later;  nothing_linear
 -- lazy k f g                    == the sequence of at most k remainders on unit times f and unit times g;  next == the pair (f, g) becomes (g, next)
--- lazy_null, lazy-next, lazy_shown, lazy_never_long == the ways in which a turn can go;  next-led == the next is again kept with its inverse
+-- lazy_null, lazy_never_long    == the remainder is zero; number 11 is not given;  next-led == the next is again kept with its inverse
 -- lazy_constant                 == where g is a constant, the answer is 1
--- lazy_swap                     == where f has the lower degree, the first turn exchanges the two
--- lazy_fuel                     == how many remainders are allowed changes no answer
--- gcd-lazy                      == the GCD's sequence is this one
 -- remainder-scale, quotient-scale, scale_one, scale-scale == of a multiple of the dividend; a vector times 1, and times two constants
-use Rattle.std.specs.Prelude.{◌≡◌, refl, ℕ, zero, suc, ◌<◌}
+use Rattle.std.specs.Prelude.{◌≡◌, refl, ℕ, zero, suc}
 use Rattle.std.proofs.Math.Path.{ap, ap₂, fun_ext}
 use Rattle.std.proofs.Common.{sym, ◌∙◌, arith}
 use Rattle.algebra.specs.Ring.{CRing, one-⊗, ⊗-zero}
 use Rattle.algebra.specs.Solve.{◌:*◌, ◌≐◌, solve₃}
-use Rattle.algebra.specs.Vec.{Vec, Below, coef, zeroᵛ, topped, below_mono, coef_below, coef_inj, coef-zero, map-topped}
-use Rattle.algebra.specs.Shape.{lead, strip, Stripped, strip_null, strip-lead}
+use Rattle.algebra.specs.Vec.{Vec, coef, zeroᵛ, topped, coef_below, coef_inj}
+use Rattle.algebra.specs.Shape.{lead, Stripped, strip_null}
 use Rattle.algebra.specs.Series.{Series, SeriesRing, scale, *ˢ-scale}
 use Rattle.algebra.specs.Poly.{crown, below_scale}
-use Rattle.algebra.specs.Divide.{quotient, remainder, divided, quotient_is, remainder_is, remainder_small}
-use Rattle.algebra.specs.UnitDivide.{scaleᵛ, coef-scale, quotientᵘ, remainderᵘ, quotientᵘ_below}
-use Rattle.euclid.specs.Answer.{Answer, done, shown, long, map}
+use Rattle.algebra.specs.Divide.{quotient, remainder}
+use Rattle.algebra.proofs.Divide.{divided, quotient_is, remainder_is}
+use Rattle.algebra.specs.UnitDivide.{scaleᵛ, coef-scale, quotientᵘ, remainderᵘ}
+use Rattle.euclid.specs.Answer.{Answer, done, long}
 use Rattle.euclid.specs.Level.{Level, Good}
-use Rattle.euclid.specs.Sequence.{Carry, Ended, ended, seq, seq_null, seq-lead, seq_shown, seq_fuel}
-use Rattle.euclid.specs.Gcd.{wrap, gcd_with, nothing}
-use Rattle.euclid.specs.Demand.{inv_done, inv_never_long, start_any_count}
-use Rattle.euclid.specs.Steps.{make-lead, gcd-start}
+use Rattle.euclid.specs.Sequence.{Carry, Ended, ended, seq, seq_null}
+use Rattle.euclid.specs.Gcd.{nothing}
+use Rattle.euclid.specs.Demand.{inv_done, inv_never_long}
 
 -- ---- vectors times constants, and what they do to a division
 module _ (R : CRing) where
@@ -105,37 +102,19 @@ pub nothing_linear : (R : CRing) → Linear R (nothing R.Car)
 nothing_linear R = record { times_times = λ a b x. refl; less_scale = λ n Q u v x y. refl; less_none = λ n x y. refl }
 
 module _ (R : CRing) where
-  open R use {Car, 𝟘, 𝟙, ◌⊗◌}
+  open R use {Car, 𝟘, ◌⊗◌}
 
   infixl 70 ◌⊗◌
-  -- unit times f is monic
-  monic-whole : {X : Type 0} (f : Led Car X) → UnitLed R f → topped f.degree (scaleᵛ R f.degree f.unit f.low) 𝟙 ≡ scaleᵛ R (suc f.degree) f.unit (whole f)
-  monic-whole f h = ap (topped f.degree _) (sym h) ∙ sym (map-topped (λ x. f.unit ⊗ x) f.degree f.low f.top)
-
   -- a unit times what is not zero is not zero
   pub unit_times : {X : Type 0} (f : Led Car X) → UnitLed R f → (c : Car) → ¬ (c ≡ 𝟘) → ¬ (f.unit ⊗ c ≡ 𝟘)
   unit_times f h c nz z =
       nz (sym (one-⊗ R c) ∙ ap (λ x. x ⊗ c) (sym h) ∙ solve₃ R f.unit f.top c (λ u t c. u :* t :* c ≐ t :* (u :* c)) refl
       ∙ ap (λ x. f.top ⊗ x) z ∙ ⊗-zero R _)
 
-  -- where f has the lower degree, it is its own remainder, and the quotient is zero
-  module _ {X : Type 0} (f g : Led Car X) (l : f.degree < g.degree) where
-    low_below : Below 𝟘 g.degree (coef 𝟘 (suc f.degree) (whole f))
-    low_below = below_mono 𝟘 _ l (coef_below 𝟘 (suc f.degree) (whole f))
-
-    rest_small : (j : ℕ) → coef 𝟘 g.degree (rest R f g) j ≡ coef 𝟘 (suc f.degree) (whole f) j
-    rest_small = remainder_small R g.degree _ (suc f.degree) (whole f) low_below
-
-    quot-none : quot R f g ≡ zeroᵛ 𝟘 (suc f.degree)
-    quot-none =
-        coef_inj 𝟘 (suc f.degree) _ _ (λ j.
-        quotientᵘ_below R g.degree g.low g.unit 0 (suc f.degree) (whole f) (below_mono 𝟘 _ (omega arith) low_below) j (omega arith)
-        ∙ sym (coef-zero 𝟘 (suc f.degree) j))
-
 -- ---- the sequence
 module _ (L : Level) (C : Carry L.ring.Car) where
   open L use {Shown, inv}
-  open L.ring use {Car, 𝟘, 𝟙, ◌⊗◌, ⊗_assoc}
+  open L.ring use {Car, 𝟘, ◌⊗◌, ⊗_assoc}
   open C use {X, times, less}
 
   infixl 70 ◌⊗◌
@@ -148,17 +127,12 @@ module _ (L : Level) (C : Carry L.ring.Car) where
       seq L C k (suc f.degree) (scaleᵛ R (suc f.degree) f.unit (whole f)) (times f.unit f.carried)
       g.degree (scaleᵛ R g.degree g.unit g.low) (times g.unit g.carried)
 
-  -- how many remainders are allowed changes no answer, once they are more than the divisor's degree
-  pub lazy_fuel : (k j : ℕ) (f g : Led Car X) → g.degree < k → g.degree < j → lazy k f g ≡ lazy j f g
-  unfolding lazy
-  lazy_fuel k j f g l l' = seq_fuel L C k j _ _ _ _ _ _ l l'
-
   -- what follows g: the remainder, its leading coefficient c, and i the inverse of f's unit times c
   abbrev pub next : (f g : Led Car X) (e : ℕ) → Vec Car e → Car → Car → Led Car X
   next f g e u c i = led e u c (i ⊗ f.unit) (less f.carried (suc f.degree) (quot R f g) g.carried)
 
   -- the sequence's remainder is unit times the one that is kept
-  rest_scaled : (f g : Led Car X) (j : ℕ)
+  pub rest_scaled : (f g : Led Car X) (j : ℕ)
       → coef 𝟘 g.degree (remainder R g.degree (scaleᵛ R g.degree g.unit g.low) (suc f.degree) (scaleᵛ R (suc f.degree) f.unit (whole f))) j
       ≡ f.unit ⊗ coef 𝟘 g.degree (rest R f g) j
   rest_scaled f g j = ap (λ v. coef 𝟘 g.degree v j) (remainder-scale R g.degree _ _ (whole f) f.unit) ∙ coef-scale R g.degree f.unit (rest R f g) j
@@ -185,20 +159,6 @@ module _ (L : Level) (C : Carry L.ring.Car) where
     not_zero : ¬ (f.unit ⊗ c ≡ 𝟘)
     not_zero = unit_times R f uf c st.1
 
-    -- and is the leading coefficient of the sequence's remainder
-    shape : strip L.is_zero g.degree
-        (remainder R g.degree (scaleᵛ R g.degree g.unit g.low) (suc f.degree) (scaleᵛ R (suc f.degree) f.unit (whole f)))
-        ≡ lead e (scaleᵛ R e f.unit u) (f.unit ⊗ c)
-    shape =
-        strip-lead L.zero_test g.degree _ e _ _ not_zero (λ j.
-        rest_scaled f g j ∙ ap (λ x. f.unit ⊗ x) (st.2 j) ∙ sym (coef-scale R (suc e) f.unit (topped e u c) j)
-        ∙ ap (λ v. coef 𝟘 (suc e) v j) (map-topped (λ x. f.unit ⊗ x) e u c))
-
-    -- the inverse of unit times c shows a factor
-    pub lazy_shown : (k : ℕ) (x : Shown) → inv (f.unit ⊗ c) ≡ shown x → lazy (suc k) f g ≡ shown x
-    unfolding lazy
-    lazy_shown k x h = seq_shown L C k _ _ _ _ _ _ e _ _ shape x h
-
     -- it is never number 11
     pub lazy_never_long : Good L → ¬ (inv (f.unit ⊗ c) ≡ long)
     lazy_never_long G = inv_never_long L G (f.unit ⊗ c) not_zero
@@ -206,48 +166,3 @@ module _ (L : Level) (C : Carry L.ring.Car) where
     -- it is i: the next polynomial is the remainder as it is, with i times unit as its inverse
     pub next-led : Good L → (i : Car) → inv (f.unit ⊗ c) ≡ done i → UnitLed R (next f g e u c i)
     next-led G i h = ⊗_assoc i f.unit c ∙ inv_done L G (f.unit ⊗ c) not_zero i h
-
-    -- and the sequence goes on with g and that
-    pub lazy-next : UnitLed R g → Linear R C → (k : ℕ) (i : Car) → inv (f.unit ⊗ c) ≡ done i → lazy (suc k) f g ≡ lazy k g (next f g e u c i)
-    unfolding lazy
-    lazy-next ug lin k i h =
-        seq-lead L C k _ _ _ g.degree ĝ y e _ _ shape i h
-        ∙ ap (λ v. seq L C k (suc g.degree) v y e (scaleᵛ R e i (scaleᵛ R e f.unit u)) z) (monic-whole R g ug)
-        ∙ ap₂ (λ v x. seq L C k (suc g.degree) (scaleᵛ R (suc g.degree) g.unit (whole g)) y e v x) (scale-scale R e i f.unit u)
-        (ap (times i)
-        (ap (λ q. less (times f.unit f.carried) (suc f.degree) q y) (quotient-scale R g.degree ĝ (suc f.degree) (whole f) f.unit)
-        ∙ lin.less_scale (suc f.degree) (quotient R g.degree ĝ (suc f.degree) (whole f)) f.unit g.unit f.carried g.carried)
-        ∙ lin.times_times i f.unit _)
-      where
-        ĝ : Vec Car g.degree
-        ĝ = scaleᵛ R g.degree g.unit g.low
-
-        y : X
-        y = times g.unit g.carried
-
-        z : X
-        z = times i (less (times f.unit f.carried) (suc f.degree) (quotient R g.degree ĝ (suc f.degree) (scaleᵛ R (suc f.degree) f.unit (whole f))) y)
-
-  -- where f has the lower degree: its remainder is f, and 1 is its own inverse
-  pub lazy_swap : (f g : Led Car X) → UnitLed R f → UnitLed R g → f.degree < g.degree → Linear R C → ¬ (𝟙 ≡ 𝟘) → inv 𝟙 ≡ done 𝟙
-      → (k : ℕ) → lazy (suc k) f g ≡ lazy k g f
-  lazy_swap f g uf ug l lin ne one k =
-      lazy-next f g uf f.degree f.low f.top (l, top_not_zero, rest_small R f g l) ug lin k 𝟙 (ap inv uf ∙ one)
-      ∙ ap₂ (λ i x. lazy k g (led f.degree f.low f.top i x)) (one-⊗ R f.unit)
-      (ap (λ q. less f.carried (suc f.degree) q g.carried) (quot-none R f g l) ∙ lin.less_none (suc f.degree) f.carried g.carried)
-    where
-      top_not_zero : ¬ (f.top ≡ 𝟘)
-      top_not_zero z = ne (sym uf ∙ ap (λ x. f.unit ⊗ x) z ∙ ⊗-zero R _)
-
-  -- ---- the GCD: both are kept as they are, with the inverses of their leading coefficients
-  module _ (G : Good L) (k : ℕ) (a : Vec Car k) (x : X) (l : ℕ) (b : Vec Car l) (y : X)
-      (e : ℕ) (u : Vec Car e) (c : Car) (sa : Stripped 𝟘 k a (lead e u c)) (e' : ℕ) (u' : Vec Car e') (c' : Car) (sb : Stripped 𝟘 l b (lead e' u' c')) where
-    -- the inverses of both are given, a's first: the answer is that of the sequence on the two, of any count above b's degree
-    pub gcd-lazy : (i : Car) → inv c ≡ done i → (i' : Car) → inv c' ≡ done i' → (j : ℕ) → e' < j
-        → gcd_with L C k a x l b y ≡ map wrap (lazy j (led e u c i x) (led e' u' c' i' y))
-    unfolding lazy
-    gcd-lazy i h i' h' j enough =
-        gcd-start L C k a x l b y _ (make-lead L C k a x e u c (strip-lead L.zero_test k a e u c sa.1 sa.2) i h)
-        _ (make-lead L C l b y e' u' c' (strip-lead L.zero_test l b e' u' c' sb.1 sb.2) i' h')
-        ∙ start_any_count L C j e (scaleᵛ R e i u) (times i x) e' (scaleᵛ R e' i' u') (times i' y) enough
-        ∙ ap (λ v. map wrap (seq L C j (suc e) v (times i x) e' (scaleᵛ R e' i' u') (times i' y))) (monic-whole R (led e u c i x) (inv_done L G c sa.1 i h))

@@ -1,27 +1,23 @@
--- The inverse one level up, as a program follows it that does not scale its polynomials (Lazy): the sequence on the modulus and c, both as they are.
+-- The inverse one level up, as a program follows it that does not scale its polynomials (Lazy): what it starts from, and what is carried.
+-- (proofs/LazyInverse.antt: the inverse is what that sequence comes to.)
 --
 -- elements_linear    == the elements that are carried may be scaled later
 -- modulus, modulus-led, element == the two at the start, with the inverses of their leading coefficients: m with 1 and 0 carried; c with 1 carried
--- inverse_shown      == the inverse of c's leading coefficient shows a factor: so does c's
--- inverse-lazy       == else the inverse is what the sequence on the two comes to
 -- less-low           == what is carried needs no reduction: where the degrees are low enough, x less q y is so by coefficients;  less_below == its degree
-use Rattle.std.specs.Prelude.{◌≡◌, refl, ℕ, suc, ◌+◌, ◌≤◌, ◌<◌}
+use Rattle.std.specs.Prelude.{◌≡◌, refl, ℕ, suc, ◌+◌, ◌≤◌}
 use Rattle.std.proofs.Math.Path.{ap, ap₂, fun_ext}
-use Rattle.std.proofs.Common.{sym, ◌∙◌, inl, arith}
+use Rattle.std.proofs.Common.{sym, ◌∙◌, arith}
 use Rattle.algebra.specs.Ring.{CRing, group_of}
 use Rattle.algebra.specs.Solve.{◌:-◌, ◌:*◌, ◌≐◌, c0, solve₂, solve₅}
-use Rattle.algebra.specs.Vec.{Vec, Below, coef, zeroᵛ, trunc, topped, coef-zero, coef-trunc, coef-add, coef-neg}
-use Rattle.algebra.specs.Shape.{lead, Stripped, strip-lead}
+use Rattle.algebra.specs.Vec.{Vec, Below, coef, zeroᵛ, trunc, coef-zero, coef-trunc, coef-add, coef-neg}
 use Rattle.algebra.specs.Series.{SeriesRing, const-*}
 use Rattle.algebra.specs.Poly.{constᴾ, poly, ◌*ᴾ◌, *_below}
 use Rattle.algebra.specs.UnitDivide.{scaleᵛ, coef-scale}
-use Rattle.algebra.specs.Quotient.{Quotient, residue, residue-is, residue_respects, residue-*, same, mul-l}
-use Rattle.euclid.specs.Answer.{Answer, done, shown, bind, lift}
-use Rattle.euclid.specs.Level.{Level, beneath}
-use Rattle.euclid.specs.Sequence.{seq}
-use Rattle.euclid.specs.Inverse.{elements, residue-scale, finish, on_modulus, inverse, inverse_from}
-use Rattle.euclid.specs.Demand.{inverse_any_count}
-use Rattle.euclid.specs.Lazy.{Led, led, UnitLed, Linear, lazy, scale_one, scale-scale}
+use Rattle.algebra.specs.Quotient.{residue, same}
+use Rattle.algebra.proofs.Quotient.{Quotient, residue-is, residue_respects, residue-*, mul-l}
+use Rattle.euclid.specs.Level.{Level}
+use Rattle.euclid.specs.Inverse.{elements, residue-scale}
+use Rattle.euclid.specs.Lazy.{Led, led, UnitLed, Linear, scale-scale}
 
 module _ (L : Level) (d : ℕ) (m : Vec L.ring.Car d) where
   open L.ring use {Car, 𝟘, 𝟙, ◌⊕◌, ⊖◌}
@@ -96,29 +92,3 @@ module _ (L : Level) (d : ℕ) (m : Vec L.ring.Car d) where
 
   abbrev pub element : (e : ℕ) → Vec Car e → Car → Car → Led Car (Vec Car d)
   element e u k i = led e u k i 1ᵠ
-
-  module _ (c : Vec Car d) (e : ℕ) (u : Vec Car e) (k : Car) (st : Stripped 𝟘 d c (lead e u k)) where
-    -- what the inverse of k leads to
-    after : Answer L.Shown Car → Answer (beneath L d m).Shown (Vec Car d)
-    after a = bind (lift inl a) (λ i. bind (on_modulus L d m e (scaleᵛ R e i u) (scaleᵛ R d i 1ᵠ)) (λ r. finish L d m r.degree r.low r.carried))
-
-    -- c is not zero, so this is what its inverse is
-    opened : inverse L d m c ≡ after (L.inv k)
-    unfolding inverse after
-    opened = ap (inverse_from L d m) (strip-lead L.zero_test d c e u k st.1 st.2)
-
-    -- it shows a factor
-    pub inverse_shown : (f : L.Shown) → L.inv k ≡ shown f → inverse L d m c ≡ shown (inl f)
-    unfolding after
-    inverse_shown f h = opened ∙ ap after h
-
-    -- or it is i, and the answer is that of the sequence on the two, of any count above c's degree
-    pub inverse-lazy : (i : Car) → L.inv k ≡ done i → (j : ℕ) → e < j
-        → inverse L d m c ≡ bind (lazy (beneath L d m) (elements L d m) j modulus (element e u k i)) (λ r. finish L d m r.degree r.low r.carried)
-    unfolding after lazy
-    inverse-lazy i h j enough =
-        opened ∙ ap after h
-        ∙ ap (λ s. bind s (λ r. finish L d m r.degree r.low r.carried))
-        (inverse_any_count L d m j e (scaleᵛ R e i u) (scaleᵛ R d i 1ᵠ) st.0 enough
-        ∙ ap₂ (λ v x. seq (beneath L d m) (elements L d m) j (suc d) v x e (scaleᵛ R e i u) (scaleᵛ R d i 1ᵠ))
-        (sym (scale_one R (suc d) (topped d m 𝟙))) (sym (scale_one R d (zeroᵛ 𝟘 d))))

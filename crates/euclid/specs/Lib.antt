@@ -13,4 +13,3 @@ pub mod Figures
 pub mod Steps
 pub mod Lazy
 pub mod LazyInverse
-pub mod One

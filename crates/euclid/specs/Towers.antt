@@ -1,20 +1,17 @@
--- The sequences at every level of every tower: what may be shown, the inverse, the level of document 01's towers as one of `Level`, and demand 3 for it.
+-- The sequences at every level of every tower: what may be shown, the inverse, the level of document 01's towers as one of `Level`, and demand 3's factors.
+-- (proofs/Towers.antt: that each level keeps its promise.)
 --
 -- Shown p d n        == what may be shown at level n;  value_of, shown_level == the number or polynomial, and its level
 -- Right              == that it is right: demand 3's factor;  right-value == the same by its level: a factor of the polynomial of that level
--- inv, level, good   == the inverse at level n, the whole level, and its promise
--- Free               == a modulus and tower without such factors;  gcd_of_free, inverse_of_free: they get their GCD and their inverses
-use Rattle.std.specs.Prelude.{◌≡◌, ◌⊎◌, List, ℕ, zero, suc, ◌<◌}
+-- inv, level         == the inverse at level n, and the whole level
+-- Free               == a modulus and tower without such factors
+use Rattle.std.specs.Prelude.{◌⊎◌, List, ℕ, zero, suc, ◌<◌}
 use Rattle.std.proofs.Common.{inl, inr}
-use Rattle.algebra.specs.Vec.{Vec}
-use Rattle.algebra.specs.PolyRing.{pol}
-use Rattle.tower.specs.Levels.{degree, El, is_zero, Tower, group, zero_test, ring}
-use Rattle.euclid.specs.Answer.{Answer, done}
-use Rattle.euclid.specs.Level.{Level, Good, Mon, Factor, Factor₀, RightAbove}
-use Rattle.euclid.specs.Number.{inverse₀, inverse₀_ok}
-use Rattle.euclid.specs.Inverse.{inverse, above_good}
-use Rattle.euclid.specs.Gcd.{Made, Gcd, gcd, nothing}
-use Rattle.euclid.specs.Demand.{gcd_given, inv_given}
+use Rattle.tower.specs.Levels.{degree, El, is_zero, Tower, zero_test, ring}
+use Rattle.euclid.specs.Answer.{Answer}
+use Rattle.euclid.specs.Level.{Level, Mon, Factor, Factor₀, RightAbove}
+use Rattle.euclid.specs.Number.{inverse₀}
+use Rattle.euclid.specs.Inverse.{inverse}
 
 module _ (p : ℕ) (d : List ℕ) where
   -- what may be shown at level n: what the levels below show, and a factor of the topmost polynomial
@@ -53,10 +50,6 @@ module _ (p : ℕ) (pos : 0 < p) (d : List ℕ) where
   abbrev pub level : (n : ℕ) → Tower p d n → Level
   level n t = level_with n t (inv n t)
 
-  pub good : (n : ℕ) (t : Tower p d n) → Good (level n t)
-  good zero t = inverse₀_ok p pos
-  good (suc n) t = above_good (level n t.0) (degree d n) t.1 (good n t.0)
-
   -- ---- demand 3: "it is a monic proper factor of the named tower polynomial, of degree 1 or more, or at level 0 a number between 1 and the modulus that
   -- divides it". The tower polynomial of level j + 1 of t is the last of the tower of its first j + 1 levels.
   pub data First : (n : ℕ) → Tower p d n → (j : ℕ) → Tower p d j → Type 0 where
@@ -86,17 +79,3 @@ module _ (p : ℕ) (pos : 0 < p) (d : List ℕ) where
   abbrev pub Free : (n : ℕ) → Tower p d n → Type 0
   Free zero t = (h : ℕ) → ¬ Factor₀ p h
   Free (suc n) t = Free n t.0 × ((f : Mon (El p d n)) → ¬ Factor (ring p pos d n t.0) (degree d n) t.1 f)
-
-  free_shows_nothing : (n : ℕ) (t : Tower p d n) → Free n t → (f : Shown p d n) → ¬ Right n t f
-  free_shows_nothing zero t h f = h f
-  free_shows_nothing (suc n) t h (inl f) = free_shows_nothing n t.0 h.0 f
-  free_shows_nothing (suc n) t h (inr f) = h.1 f
-
-  -- "a modulus and tower without such factors always get their GCD"
-  pub gcd_of_free : (n : ℕ) (t : Tower p d n) → Free n t → (k : ℕ) (a : Vec (El p d n) k) (l : ℕ) (b : Vec (El p d n) l)
-      → (g : Made (El p d n) (Unit {0})) × (gcd (level n t) k a l b ≡ done g) × Gcd (ring p pos d n t) (pol (ring p pos d n t) k a) (pol (ring p pos d n t) l b) g
-  gcd_of_free n t f k a l b = gcd_given (level n t) (good n t) k a l b (nothing (El p d n)) tt tt (free_shows_nothing n t f)
-
-  pub inverse_of_free : (n : ℕ) (t : Tower p d n) → Free n t → (c : El p d n) → ¬ (c ≡ (group p pos d n).𝟘)
-      → (u : El p d n) × (inv n t c ≡ done u) × ((ring p pos d n t).◌⊗◌ u c ≡ (ring p pos d n t).𝟙)
-  inverse_of_free n t f c nz = inv_given (level n t) (good n t) c nz (free_shows_nothing n t f)

@@ -1,1 +1,1 @@
-// Definitions and theorems only, in specs/: this crate has no code yet.
+// Definitions and theorems only, in specs/ and proofs/: this crate has no code yet.

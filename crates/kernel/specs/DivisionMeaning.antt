@@ -16,7 +16,8 @@
 use Rattle.std.specs.Prelude.{ℕ, zero, suc, ◌+◌, ◌-◌, ◌*◌, ◌≤◌, ◌<◌, ◌≡◌, refl, List, [], ◌∷◌, ◌⊎◌, ◌↔◌, ℤ, pos, T, leb, length, get_or}
 use Rattle.std.proofs.Common.{lt_irrefl, arith, sym, ap, ◌∙◌, inl, inr, leb→le, le→leb}
 use Rattle.std.proofs.Math.Path.{fun_ext}
-use Rattle.algebra.specs.Divide.{divided, unique_quotient, unique_remainder, quotient_below, remainder_small}
+use Rattle.algebra.specs.Divide.{unique_quotient, unique_remainder}
+use Rattle.algebra.proofs.Divide.{divided, quotient_below, remainder_small}
 use Rattle.algebra.specs.Poly.{crown}
 use Rattle.algebra.specs.Ring.{CRing}
 use Rattle.algebra.specs.Series.{Series, SeriesRing}

@@ -17,9 +17,10 @@ use Rattle.tower.specs.Limits.{p_ok, p_positive, degrees_of}
 use Rattle.tower.specs.Work.{gcd_work}
 use Rattle.tower.specs.Writing.{size}
 use Rattle.euclid.specs.Answer.{Answer, long}
-use Rattle.euclid.specs.Demand.{gcd_never_long as sequence-never-long}
+use Rattle.euclid.proofs.Demand.{gcd_never_long as sequence-never-long}
 use Rattle.euclid.specs.Gcd.{Made, nothing, gcd as gcd-of}
-use Rattle.euclid.specs.Towers.{Shown, shown_level, good}
+use Rattle.euclid.specs.Towers.{Shown, shown_level}
+use Rattle.euclid.proofs.Towers.{good}
 use Rattle.kernel.specs.Answered.{tower_in, level_of}
 use Rattle.kernel.specs.Calls.{coefficients_of, length_ok}
 use Rattle.kernel.specs.Gcds.{gcd_room, gcd_needed, gcd_number, gcd_by, gcd_words, gcd}

@@ -23,12 +23,15 @@ use Rattle.residue.specs.Word.{num}
 use Rattle.tower.specs.Levels.{ring, one_not_zero}
 use Rattle.tower.specs.Limits.{p_ok, p_positive, degrees_of}
 use Rattle.euclid.specs.Answer.{Answer, done as done-with, shown, long, Holds}
-use Rattle.euclid.specs.Demand.{gcd_done as given_is, gcd_shown as shown-is, gcd-zero, gcd_unique}
+use Rattle.euclid.specs.Demand.{gcd-zero, gcd_unique}
+use Rattle.euclid.proofs.Demand.{gcd_done as given_is, gcd_shown as shown-is}
 use Rattle.euclid.specs.Gcd.{Made, nil, made, made_count, made_coefficients, val, Gcd, nothing}
 use Rattle.euclid.specs.Level.{Good}
 use Rattle.euclid.specs.Shown.{shown_words}
-use Rattle.euclid.specs.Steps.{Low, gcd-low}
-use Rattle.euclid.specs.Towers.{Shown, Value, value_of, shown_level, good, Free, gcd_of_free}
+use Rattle.euclid.specs.Steps.{Low}
+use Rattle.euclid.proofs.Steps.{gcd-low}
+use Rattle.euclid.specs.Towers.{Shown, Value, value_of, shown_level, Free}
+use Rattle.euclid.proofs.Towers.{good, gcd_of_free}
 use Rattle.kernel.specs.Answered.{tower_in, level_of}
 use Rattle.kernel.specs.Calls.{coefficients_of, form_ok}
 use Rattle.kernel.specs.DivisionAnswers.{Monic}

@@ -21,7 +21,8 @@ use Rattle.tower.specs.Work.{inverse_work}
 use Rattle.tower.specs.Writing.{write, write_long}
 use Rattle.euclid.specs.Answer.{Answer, long}
 use Rattle.euclid.specs.Demand.{inv_never_long}
-use Rattle.euclid.specs.Towers.{Shown, shown_level, inv, level, good}
+use Rattle.euclid.specs.Towers.{Shown, shown_level, inv, level}
+use Rattle.euclid.proofs.Towers.{good}
 use Rattle.kernel.specs.Answered.{tower_in}
 use Rattle.kernel.specs.Calls.{size_of, tower_table}
 use Rattle.kernel.specs.Inverses.{element_length, element_of, inverse_number, inverse_by, inverse_words, inverse}

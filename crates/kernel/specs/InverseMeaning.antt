@@ -21,7 +21,8 @@ use Rattle.euclid.specs.Answer.{Answer, done as done-with, shown, long}
 use Rattle.euclid.specs.Demand.{inv_done, inv_shown}
 use Rattle.euclid.specs.Level.{Good}
 use Rattle.euclid.specs.Shown.{shown_words}
-use Rattle.euclid.specs.Towers.{Shown, Value, value_of, shown_level, good, Free, inverse_of_free}
+use Rattle.euclid.specs.Towers.{Shown, Value, value_of, shown_level, Free}
+use Rattle.euclid.proofs.Towers.{good, inverse_of_free}
 use Rattle.kernel.specs.Answered.{tower_in, level_of}
 use Rattle.kernel.specs.InverseAnswers.{ElementOf, element_words, element-is, InverseHeld, inverse-says, inverse_answer, inverse_sequence}
 use Rattle.kernel.specs.InverseAnswers.{inverse-words, inverse_not_zero, inverse_ends, inverse-by}

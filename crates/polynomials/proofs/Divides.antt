@@ -18,7 +18,8 @@ use lib.ListN.{length}
 use Rattle.algebra.specs.Test.{le_or_lt}
 use Rattle.algebra.specs.Vec.{Vec, coef, trunc-at}
 use Rattle.algebra.specs.Windows.{first, span, span_left, span_right}
-use Rattle.algebra.specs.Divided.{row, row-each, row-top}
+use Rattle.algebra.specs.Divided.{row}
+use Rattle.algebra.proofs.Divided.{row-each, row-top}
 use Rattle.tower.specs.Levels.{El, group, Tower, ring}
 use Rattle.tower.specs.Writing.{size, write}
 use Rattle.tower.specs.Form.{seg}

@@ -11,8 +11,9 @@ use mathlib.Core.List.{List}
 use lib.IntN.{ℤ}
 use lib.ListN.{length}
 use Rattle.algebra.specs.Vec.{Vec, Below, coef, coef_below, trunc, trunc-at, trunc-coef}
-use Rattle.algebra.specs.Divide.{quotient_below, remainder_small}
-use Rattle.algebra.specs.Divided.{row_low, row_high, remainder_cut, quotient_cut}
+use Rattle.algebra.proofs.Divide.{quotient_below, remainder_small}
+use Rattle.algebra.specs.Divided.{row_low, row_high}
+use Rattle.algebra.proofs.Divided.{remainder_cut, quotient_cut}
 use Rattle.tower.specs.Levels.{El, group, Tower, ring}
 use Rattle.tower.specs.Writing.{size, write, slot, slot_long, degree_count}
 use Rattle.tower.specs.Form.{seg}

@@ -11,7 +11,8 @@ use lib.ListN.{length}
 use Rattle.algebra.specs.Ring.{CRing}
 use Rattle.algebra.specs.Vec.{Vec, coef}
 use Rattle.algebra.specs.Windows.{first, span, sum, sum-zero, sum_suc, sum_cong, window, window-neg}
-use Rattle.algebra.specs.Divided.{row, row-each}
+use Rattle.algebra.specs.Divided.{row}
+use Rattle.algebra.proofs.Divided.{row-each}
 use Rattle.algebra.specs.Zmod.{Residue, to_z, z_group, Zmod, to_z-⊕, to_z-⊗, to_z_own}
 use Rattle.residue.specs.Number.{Modulus, Below, sum_of, Room, Added}
 use Rattle.residue.specs.Word.{at}

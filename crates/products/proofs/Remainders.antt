@@ -22,7 +22,8 @@ use lib.ListN.{length}
 use Rattle.algebra.specs.Test.{le_or_lt}
 use Rattle.algebra.specs.Vec.{Vec, coef}
 use Rattle.algebra.specs.Windows.{first, span, window}
-use Rattle.algebra.specs.Divided.{row, row-each, row-top}
+use Rattle.algebra.specs.Divided.{row}
+use Rattle.algebra.proofs.Divided.{row-each, row-top}
 use Rattle.tower.specs.Levels.{El, group, Tower, ring}
 use Rattle.tower.specs.Writing.{size, size-pos, write, tower_size}
 use Rattle.tower.specs.Stands.{Stands}

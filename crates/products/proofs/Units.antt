@@ -18,7 +18,8 @@ use lib.ListN.{length}
 use Rattle.algebra.specs.Ring.{zero-⊕}
 use Rattle.algebra.specs.Test.{le_or_lt}
 use Rattle.algebra.specs.Windows.{sum-zero, sum_suc}
-use Rattle.algebra.specs.UnitDivided.{rowᵘ, rowᵘ-rest, rowᵘ-quotient}
+use Rattle.algebra.specs.UnitDivided.{rowᵘ}
+use Rattle.algebra.proofs.UnitDivided.{rowᵘ-rest, rowᵘ-quotient}
 use Rattle.tower.specs.Levels.{El, group, ring}
 use Rattle.tower.specs.Writing.{size, write}
 use Rattle.tower.specs.Stands.{Stands}

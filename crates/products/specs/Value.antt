@@ -18,7 +18,7 @@ use Rattle.algebra.specs.Vec.{Vec, coef, coef_below, trunc, addᵛ, vec_group}
 use Rattle.algebra.specs.Series.{◌*ˢ◌}
 use Rattle.algebra.specs.Divide.{remainder}
 use Rattle.algebra.specs.Windows.{first, span, sum, sum-zero, sum_suc, sum_cong, product_at}
-use Rattle.algebra.specs.Divided.{remainder-add, remainder-neg, remainder_short, remainder-product}
+use Rattle.algebra.proofs.Divided.{remainder-add, remainder-neg, remainder_short, remainder-product}
 use Rattle.algebra.specs.Zmod.{to_z, to_z-⊕}
 use Rattle.residue.specs.Number.{Modulus}
 use Rattle.residue.specs.Word.{num}

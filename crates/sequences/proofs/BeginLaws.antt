@@ -25,8 +25,10 @@ use Rattle.arithmetic.specs.Rows.{block_inside}
 use Rattle.arithmetic.specs.Walk.{pick}
 use Rattle.products.proofs.Frames.{Same, same-part, worked_kept}
 use Rattle.euclid.specs.Demand.{inv_never_long}
-use Rattle.euclid.specs.LazyInverse.{modulus, element, inverse_shown}
-use Rattle.euclid.specs.Towers.{inv, good}
+use Rattle.euclid.specs.LazyInverse.{modulus, element}
+use Rattle.euclid.proofs.LazyInverse.{inverse_shown}
+use Rattle.euclid.specs.Towers.{inv}
+use Rattle.euclid.proofs.Towers.{good}
 use Rattle.sequences.specs.declared.Ended.TheVariants.{Divisor}
 use Rattle.sequences.specs.declared.Outcome.{Outcome}
 use Rattle.sequences.specs.declared.Outcome.TheVariants.{Done, Factor, Long}

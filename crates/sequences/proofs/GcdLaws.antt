@@ -30,8 +30,9 @@ use Rattle.arithmetic.specs.Walk.{pick}
 use Rattle.products.specs.Product.{TowerStands, Elements}
 use Rattle.euclid.specs.Answer.{Answer, map}
 use Rattle.euclid.specs.Gcd.{Made, wrap, nothing}
-use Rattle.euclid.specs.Lazy.{Led, whole, nothing_linear, lazy_fuel, lazy_constant, lazy_swap}
-use Rattle.euclid.specs.One.{inv-one}
+use Rattle.euclid.specs.Lazy.{Led, whole, nothing_linear, lazy_constant}
+use Rattle.euclid.proofs.Lazy.{lazy_fuel, lazy_swap}
+use Rattle.euclid.proofs.One.{inv-one}
 use Rattle.euclid.specs.Towers.{Shown, level}
 use Rattle.sequences.specs.declared.Found.{Found}
 use Rattle.sequences.specs.declared.Found.TheVariants.{Greatest, Divides}

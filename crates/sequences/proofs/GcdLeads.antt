@@ -32,7 +32,8 @@ use Rattle.euclid.specs.Demand.{inv_done, inv_never_long}
 use Rattle.euclid.specs.Gcd.{made, make, nothing}
 use Rattle.euclid.specs.Lazy.{Led, led}
 use Rattle.euclid.specs.Steps.{make-lead, make_shown}
-use Rattle.euclid.specs.Towers.{Shown, shown_level, inv, level, good}
+use Rattle.euclid.specs.Towers.{Shown, shown_level, inv, level}
+use Rattle.euclid.proofs.Towers.{good}
 use Rattle.sequences.specs.declared.Outcome.{Outcome}
 use Rattle.sequences.specs.declared.Outcome.TheVariants.{Done, Factor, Long}
 use Rattle.sequences.specs.Outcomes.{Came, FactorStands}

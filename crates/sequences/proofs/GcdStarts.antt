@@ -18,11 +18,13 @@ use Rattle.algebra.specs.Vec.{trunc}
 use Rattle.tower.specs.Levels.{El, Tower}
 use Rattle.tower.specs.Writing.{size}
 use Rattle.euclid.specs.Answer.{Answer, done, shown}
-use Rattle.euclid.specs.Gcd.{Made, nil, make, gcd, gcd-right-zero, gcd-left-zero, nothing}
-use Rattle.euclid.specs.Lazy.{gcd-lazy}
+use Rattle.euclid.specs.Gcd.{Made, nil, make, gcd, gcd-right-zero, nothing}
+use Rattle.euclid.proofs.Gcd.{gcd-left-zero}
+use Rattle.euclid.proofs.Lazy.{gcd-lazy}
 use Rattle.euclid.specs.Shown.{shown_fits}
 use Rattle.euclid.specs.Steps.{make_null, gcd-first as first-shows, gcd_second as second-shows}
-use Rattle.euclid.specs.Towers.{Shown, shown_level, inv, level, good}
+use Rattle.euclid.specs.Towers.{Shown, shown_level, inv, level}
+use Rattle.euclid.proofs.Towers.{good}
 use Rattle.sequences.specs.declared.Found.{Found}
 use Rattle.sequences.specs.declared.Found.TheVariants.{Greatest, Divides}
 use Rattle.sequences.specs.declared.Outcome.{Outcome}

@@ -27,9 +27,11 @@ use Rattle.products.proofs.Frames.{Same, inside_kept}
 use Rattle.products.proofs.Towers.{topped-low}
 use Rattle.euclid.specs.Answer.{Answer, done, shown, long, map}
 use Rattle.euclid.specs.Gcd.{Made, wrap, nothing}
-use Rattle.euclid.specs.Lazy.{Led, led, whole, rest, lazy, nothing_linear, lazy_fuel, lazy_null, lazy_shown, lazy_never_long, next-led, lazy-next}
+use Rattle.euclid.specs.Lazy.{Led, led, whole, rest, lazy, nothing_linear, lazy_null, lazy_never_long, next-led}
+use Rattle.euclid.proofs.Lazy.{lazy_fuel, lazy_shown, lazy-next}
 use Rattle.euclid.specs.Shown.{shown_fits}
-use Rattle.euclid.specs.Towers.{Shown, shown_level, inv, level, good}
+use Rattle.euclid.specs.Towers.{Shown, shown_level, inv, level}
+use Rattle.euclid.proofs.Towers.{good}
 use Rattle.sequences.specs.declared.Found.TheVariants.{Divides}
 use Rattle.sequences.specs.declared.Turn.{Turn}
 use Rattle.sequences.specs.declared.Turn.TheVariants.{Next, Shows, Over}

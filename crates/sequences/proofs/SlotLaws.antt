@@ -14,7 +14,7 @@ use lib.IntN.{ℤ}
 use lib.ListN.{length}
 use Rattle.algebra.specs.Vec.{coef, coef-zero, trunc-at, zeroᵛ, topped}
 use Rattle.algebra.specs.Series.{const}
-use Rattle.algebra.specs.Quotient.{one-is}
+use Rattle.algebra.proofs.Quotient.{one-is}
 use Rattle.tower.specs.Form.{seg, copies, zero_words, one_words}
 use Rattle.tower.specs.Levels.{degree, El, group, Tower, ring, Ones}
 use Rattle.tower.specs.Lists.{seg-seg, seg_long, copies_long}

@@ -20,7 +20,8 @@ use Rattle.tower.specs.Store.{Kept}
 use Rattle.tower.specs.Work.{inverse_work}
 use Rattle.arithmetic.specs.Rows.{block_inside}
 use Rattle.euclid.specs.Answer.{Answer}
-use Rattle.euclid.specs.Towers.{Shown, inv, good}
+use Rattle.euclid.specs.Towers.{Shown, inv}
+use Rattle.euclid.proofs.Towers.{good}
 use Rattle.euclid.specs.Lazy.{Led, rest}
 use Rattle.sequences.specs.declared.Ended.TheVariants.{Divisor}
 use Rattle.sequences.specs.declared.Turn.{Turn}

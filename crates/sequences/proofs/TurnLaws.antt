@@ -14,14 +14,17 @@ use Rattle.algebra.specs.Vec.{Vec, Below, coef, below_mono, coef_below, coef-zer
 use Rattle.algebra.specs.Shape.{lead, Stripped}
 use Rattle.algebra.specs.Series.{SeriesRing, const}
 use Rattle.algebra.specs.Poly.{constᴾ}
-use Rattle.algebra.specs.Quotient.{one-is}
-use Rattle.algebra.specs.UnitDivide.{scaleᵛ, quotientᵘ_below}
+use Rattle.algebra.proofs.Quotient.{one-is}
+use Rattle.algebra.specs.UnitDivide.{scaleᵛ}
+use Rattle.algebra.proofs.UnitDivide.{quotientᵘ_below}
 use Rattle.euclid.specs.Answer.{done, shown, long, bind, lift}
 use Rattle.euclid.specs.Level.{Level, Good, beneath, beneath_good}
 use Rattle.euclid.specs.Inverse.{elements, finish, inverse}
 use Rattle.euclid.specs.Demand.{inv_done}
-use Rattle.euclid.specs.Lazy.{Led, led, whole, rest, quot, lazy_fuel, lazy_null, lazy_shown, lazy_never_long, next-led, lazy-next}
-use Rattle.euclid.specs.LazyInverse.{elements_linear, less-low, less_below, modulus, modulus-led, element, inverse-lazy}
+use Rattle.euclid.specs.Lazy.{Led, led, whole, rest, quot, lazy_null, lazy_never_long, next-led}
+use Rattle.euclid.proofs.Lazy.{lazy_fuel, lazy_shown, lazy-next}
+use Rattle.euclid.specs.LazyInverse.{elements_linear, less-low, less_below, modulus, modulus-led, element}
+use Rattle.euclid.proofs.LazyInverse.{inverse-lazy}
 use Rattle.sequences.specs.Passes.{Turning}
 
 module _ (L : Level) (g : ℕ) (m v : Vec L.ring.Car g) where

@@ -14,7 +14,7 @@ use Rattle.algebra.specs.Test.{ZeroTest}
 use Rattle.algebra.specs.Ring.{GroupOn, Group, bundle, sum_of, Times, CRing, ring_of}
 use Rattle.algebra.specs.Vec.{Vec, allᵛ, zeroᵛ, trunc, zero_vec, vec_group}
 use Rattle.algebra.specs.Series.{const}
-use Rattle.algebra.specs.Quotient.{residue_times, one-is}
+use Rattle.algebra.proofs.Quotient.{residue_times, one-is}
 use Rattle.algebra.specs.Zmod.{Residue, residue_path, z_group, z_times}
 
 abbrev pub degree : List ℕ → ℕ → ℕ

@@ -15,7 +15,7 @@ use Rattle.std.proofs.Math.Seq.{take_at, drop_at, take_all}
 use Rattle.algebra.specs.Test.{ZeroTest, both, both_l, both_r, all_to, all_to_use, all_to-make}
 use Rattle.algebra.specs.Vec.{Vec, coef, trunc, zeroᵛ, topped, coef-zero}
 use Rattle.algebra.specs.Series.{const}
-use Rattle.algebra.specs.Quotient.{one-is}
+use Rattle.algebra.proofs.Quotient.{one-is}
 use Rattle.tower.specs.Levels.{degree, El, is_zero, Tower, ring, zero_test, Ones, fewer, one_not_zero}
 use Rattle.tower.specs.Writing.{size, size_suc, modulus_size, writes, reads, writes_long, degree_and, behind_degree, write, unslot, tower_words, tower_of}
 use Rattle.tower.specs.Form.{eq_z, same, copies, zero_words, is_in_form, one_words, modulus_over, modulus_form, tower_form}

@@ -10,7 +10,7 @@ use Rattle.algebra.specs.Vec.{Vec, below_mono, coef, coef-trunc}
 use Rattle.algebra.specs.Shape.{lead, Stripped}
 use Rattle.algebra.specs.Series.{const}
 use Rattle.algebra.specs.Poly.{constᴾ}
-use Rattle.algebra.specs.Quotient.{Quotient, one-is}
+use Rattle.algebra.proofs.Quotient.{Quotient, one-is}
 use Rattle.tower.specs.Levels.{degree, Tower, ring, Ones, fewer, one_not_zero}
 use Rattle.euclid.specs.Answer.{done, bind}
 use Rattle.euclid.specs.Level.{Level, beneath}
@@ -18,7 +18,8 @@ use Rattle.euclid.specs.Number.{done₀}
 use Rattle.euclid.specs.Inverse.{elements, finish, inverse}
 use Rattle.euclid.specs.Towers.{inv, level}
 use Rattle.euclid.specs.Lazy.{lazy_null, scale_one}
-use Rattle.euclid.specs.LazyInverse.{modulus, element, inverse-lazy}
+use Rattle.euclid.specs.LazyInverse.{modulus, element}
+use Rattle.euclid.proofs.LazyInverse.{inverse-lazy}
 
 module _ (L : Level) (d : ℕ) (m : Vec L.ring.Car d) (some : 1 ≤ d) (ne : ¬ (L.ring.𝟙 ≡ L.ring.𝟘)) where
   open L.ring use {𝟘, 𝟙}

@@ -1,0 +1,11 @@
+pub mod Sequence
+pub mod Turn
+pub mod Inverse
+pub mod Gcd
+pub mod Demand
+pub mod Towers
+pub mod Figures
+pub mod Steps
+pub mod Lazy
+pub mod LazyInverse
+pub mod One
