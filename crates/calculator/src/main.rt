@@ -1,5 +1,7 @@
 // The calculator: lines of standard input, and the answers on standard output. Here bytes are
 // moved; what a line comes to is in `lines`.
+#![tactic(auto)]
+
 ghost use Rattle.std.specs.Prelude.{◌≡◌, ◌≤◌, length, take};
 ghost use Rattle.calculator.specs.Gathering.{Started, Gathered, Ended, Fed};
 ghost use Rattle.calculator.specs.Sound.{line_bytes, Sound};

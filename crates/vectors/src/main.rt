@@ -6,6 +6,8 @@
 // level or `refused` and its number, then what else the call gives, and then every lent list as it
 // is afterwards. The leading view has no answer, and what it shows is a list. A line that asks for
 // no call prints `bad line` and its number from 1.
+#![tactic(auto)]
+
 mod calls;
 mod field;
 mod output;
@@ -149,7 +151,13 @@ fn read_piece(mut input: Stdin, piece: &mut [u8]) -> usize
 }
 
 // One piece of the input.
-fn turn(input: Stdin, store: &mut Store, field: &mut Field, out: &mut Output, before: Reading) -> Reading
+fn turn(
+    input: Stdin,
+    store: &mut Store,
+    field: &mut Field,
+    out: &mut Output,
+    before: Reading,
+) -> Reading
     requires { Sound before }
     ensures { Sound result }
 {
