@@ -9,8 +9,8 @@ ghost use Rattle.vectors.specs.Within.{Within};
 
 use crate::field::Call;
 use crate::output::{Output, put, put_number, put_words};
-use crate::polynomials::{division, product};
 use crate::remainders::{gcd, inverse};
+use crate::slot_calls::{division, product};
 use kernel::Answer;
 use tower::words::word_at;
 

@@ -11,8 +11,8 @@
 mod calls;
 mod field;
 mod output;
-mod polynomials;
 mod remainders;
+mod slot_calls;
 
 ghost use Rattle.std.specs.Prelude.{◌≤◌, length};
 ghost use Rattle.vectors.specs.Sound.{Sound};
