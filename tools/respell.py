@@ -9,7 +9,8 @@ usage: python3 tools/respell.py [--list]     at the top of the repository; --lis
   low line: write-inj is write_inj, digits-length stays.
 - Names of the goals that the check makes, functions of src/ and types keep their names.
 
-It works on whole words of .rt and .antt files and of must-fail edits. It stops where two names of one file would fall together.
+It works on whole words of .rt and .antt files and of must-fail edits. It stops where two names of one file would fall together, and
+where a proof has answers: it was run once, before any proof had today's form, and would take the names of goals for lemmas.
 """
 
 import os
@@ -117,6 +118,9 @@ def turned(text, to):
 
 def main(argv):
     root = "."
+    if any(path.endswith("/Answers.antt") for path in files(root)):
+        print("the names are spelt already: nothing was written")
+        return 1
     to = spellings(root)
     if argv == ["--list"]:
         print("\n".join(f"{a} {b}" for a, b in sorted(to.items())))

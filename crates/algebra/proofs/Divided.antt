@@ -1,6 +1,6 @@
 -- Remainders of sums, negatives, short polynomials and products, and division in place.
 --
--- remainder-add, -neg, -short, -product    == R[z]/m reckoned on any number of coefficients, by the remainder of division by the monic m
+-- remainder-add, -neg, _short, -product    == R[z]/m reckoned on any number of coefficients, by the remainder of division by the monic m
 -- remainder_cut, quotient_cut              == where the dividend is zero from cap on, its cap lowest coefficients may be divided in its place
 -- row-each, row-top                        == each coefficient of the row that division in place leaves is made of those above it; the top one
 use Rattle.std.specs.Prelude.{◌≡◌, refl, ℕ, zero, suc, ◌+◌, ◌-◌, ◌≤◌, ◌<◌}

@@ -2,8 +2,8 @@
 --
 -- Dvd a b, IsUnit a, Common x f g  == a divides b; a has an inverse; x divides f and g
 -- dvd_refl, dvd_zero, dvd_+, dvd_neg, dvd_l == what divides two elements divides their sum, negatives and multiples
--- inv_unique   == an element has at most one inverse
--- common_step  == f and g have the divisors of g and f less a multiple of g;  common_unit == a unit changes no divisors
+-- inv_unique  == an element has at most one inverse
+-- common_step == f and g have the divisors of g and f less a multiple of g;  common_unit == a unit changes no divisors
 use Rattle.std.specs.Prelude.{◌≡◌, refl, ◌↔◌}
 use Rattle.std.proofs.Common.{ap, ap₂, sym, ◌∙◌}
 use Rattle.algebra.specs.Ring.{CRing}

@@ -1,10 +1,10 @@
 -- Polynomials over a commutative ring: coefficient functions with a bound. The product's honest degree: below a times below b is below a + b - 1,
 -- and its coefficient there is the product of the two at the top, which may be zero.
 --
--- Poly R          == a coefficient function that is zero from a given bound on
--- poly R d v      == the polynomial with the d coefficients v
--- monic R d w     == the monic polynomial of degree d with the coefficients w under its leading 1; crown R d w == its coefficient function
--- *_below, *-top  == the product's degree
+-- Poly R         == a coefficient function that is zero from a given bound on
+-- poly R d v     == the polynomial with the d coefficients v
+-- monic R d w    == the monic polynomial of degree d with the coefficients w under its leading 1; crown R d w == its coefficient function
+-- *_below, *-top == the product's degree
 use Rattle.std.specs.Prelude.{◌≡◌, refl, ℕ, zero, suc, ◌+◌, ◌≤◌}
 use Rattle.std.proofs.Common.{ap, ap₂, ◌∙◌, arith}
 use Rattle.std.proofs.Math.Path.{fun_ext}

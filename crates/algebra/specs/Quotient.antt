@@ -1,8 +1,8 @@
 -- The residue ring R[z]/m of a monic m of degree d: vectors of d coefficients, added by places, multiplied by the remainder of the product.
 -- (proofs/Quotient.antt: that it is a ring.)
 --
--- Cong R d w p p'      == p and p' differ by a multiple of m: same, cong_refl, cong_sym, cong_trans, cong_+, cong_*
--- residue R d w p      == the residue of the polynomial p modulo the monic one with the d coefficients w under its 1
+-- Cong R d w p p' == p and p' differ by a multiple of m: same, cong_refl, cong_sym, cong_trans, cong_+, cong_*
+-- residue R d w p == the residue of the polynomial p modulo the monic one with the d coefficients w under its 1
 -- mulᵛ, oneᵛ           == the product and the one of the residue ring;  residue_1 == the residue map keeps one
 use Rattle.std.specs.Prelude.{◌≡◌, ℕ}
 use Rattle.std.proofs.Math.Path.{refl, sym}

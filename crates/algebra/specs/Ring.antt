@@ -1,8 +1,8 @@
 -- Commutative rings, as a sum (an abelian group) and a product on it, and the laws that the ring solver rests on.
 --
 -- GroupOn A == zero, sum and negative on the type A;  Group == a type with these;  bundle, sum_of == from one to the other and back
--- Times G  == a product on the group G that makes it a commutative ring
--- CRing    == a commutative ring; ring_of G T puts one together, group_of R takes its sum
+-- Times G == a product on the group G that makes it a commutative ring
+-- CRing   == a commutative ring; ring_of G T puts one together, group_of R takes its sum
 --
 -- The two halves are kept apart because an element of a tower, its sum and its writing know nothing of the tower's polynomials: these enter with
 -- the product alone.

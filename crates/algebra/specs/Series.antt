@@ -1,6 +1,6 @@
 -- Coefficient functions over a commutative ring: R[[z]], again a commutative ring.
 --
--- Series R, SeriesRing R  == the functions, and their ring;  _*ˢ_ == the product, by its first factor's lowest coefficient
+-- Series R, SeriesRing R  == the functions, and their ring;  ◌*ˢ◌ == the product, by its first factor's lowest coefficient
 -- tail, cons, const, scale == without the lowest coefficient; with one more; a constant; a constant times f
 -- const-*, const-inverse  == a constant times f; two constants whose product is 1
 use Rattle.std.specs.Prelude.{◌≡◌, ℕ, zero, suc}

@@ -1,9 +1,9 @@
 -- The degree of a vector of coefficients, found by a test for zero: the shape of a polynomial is zero, or the coefficients under its leading one, and that one.
 --
--- Shape A, null, lead e w c  == zero; degree e, coefficients w under the leading c
--- strip z d v                == the shape of the vector v, z being the test for zero;  Stripped, strip_ok: what it says of v
--- count                      == one more than the degree, 0 for zero
--- strip-lead, strip_null     == whatever has those coefficients has that shape: the shape does not depend on how many coefficients are given
+-- Shape A, null, lead e w c == zero; degree e, coefficients w under the leading c
+-- strip z d v               == the shape of the vector v, z being the test for zero;  Stripped, strip_ok: what it says of v
+-- count                     == one more than the degree, 0 for zero
+-- strip-lead, strip_null    == whatever has those coefficients has that shape: the shape does not depend on how many coefficients are given
 use Rattle.std.specs.Prelude.{◌≡◌, refl, Bool, true, false, not, ℕ, zero, suc, ◌<◌, T}
 use Rattle.std.proofs.Common.{ap, ap₂, sym, ◌∙◌, arith}
 use Rattle.algebra.specs.Test.{ZeroTest, branch, not_zero}

@@ -1,8 +1,8 @@
 -- A commutative-ring solver by computation: an expression over variables is brought to a sorted list of signed monomials,
 -- and two expressions with the same list have the same value in every commutative ring.
 --
--- Ex, _:+_, _:*_, :~_, _:-_, c0, c1, var  == expressions;  _≐_ == an equation between two
--- solve₃ R a b c (λ a b c. l ≐ r) refl    == the identity l = r at the values a, b, c; and so for one to five values;  solve == for a list of values
+-- Ex, ◌:+◌, ◌:*◌, :~◌, ◌:-◌, c0, c1, var == expressions;  ◌≐◌ == an equation between two
+-- solve₃ R a b c (λ a b c. l ≐ r) refl   == the identity l = r at the values a, b, c; and so for one to five values;  solve == for a list of values
 use Rattle.std.specs.Prelude.{◌≡◌, Bool, not, ◌&&◌, ℕ, zero, suc, ◌+◌, ◌^◌, T, leb, ltb, eqb}
 use Rattle.std.proofs.Math.Path.{refl, sym}
 use Rattle.std.proofs.Common.{ap, ap₂, ◌∙◌, eqb→eq}

@@ -1,9 +1,9 @@
 -- Tests that compute: a Bool, with what it means. (A `Dec` would carry a proof that is computed along with the answer.)
 --
--- EqTest A      == equality by a test;  test-set == what has one is a set
--- ZeroTest o z  == z tells whether an element is o
--- branch        == by cases on a test, with what it says;  branch_yes == of a test that passes
--- both ..       == two tests;  all_to == each number below n;  le_or_lt == two numbers
+-- EqTest A     == equality by a test;  test-set == what has one is a set
+-- ZeroTest o z == z tells whether an element is o
+-- branch       == by cases on a test, with what it says;  branch_yes == of a test that passes
+-- both ..      == two tests;  all_to == each number below n;  le_or_lt == two numbers
 use Rattle.std.specs.Prelude.{◌≡◌, refl, Bool, true, false, not, ◌&&◌, ◌⊎◌, ℕ, zero, suc, ◌≤◌, ◌<◌, T, leb}
 use Rattle.std.proofs.Common.{sym, subst, inl, inr, ⊎_elim, eq-or-lt_of_le, not-suc-le-zero, arith, T_not, leb→le}
 use mathlib.Core.HLevel.{hedberg}

@@ -9,7 +9,7 @@
 -- topped d w c   == the d coefficients w and c above them: with c = 1 a monic polynomial of degree d
 -- init, last     == the d coefficients and the one above them, of d + 1
 -- allᵛ, zero_vec == every place passes a test; a test for zero tells the zero vector
--- vec_group G d   == the group of vectors of d elements of G
+-- vec_group G d  == the group of vectors of d elements of G
 use Rattle.std.specs.Prelude.{◌≡◌, refl, Bool, true, ◌&&◌, ℕ, zero, suc, ◌≤◌, ◌<◌, T}
 use Rattle.std.proofs.Common.{ap, sym, ◌∙◌, arith}
 use Rattle.std.proofs.Math.Path.{fun_ext}

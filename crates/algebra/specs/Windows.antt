@@ -2,9 +2,9 @@
 --
 -- first n k, span m n k  == the k-th coefficient of a product of factors with m and n coefficients pairs `span m n k` coefficients: those of the first
 --                           from `first n k` on upwards with those of the second down to `first m k`
--- sum R n h              == h 0 + .. + h (n - 1);  sum_split, sum-⊕, sum-neg, sum_swap == of two stretches, of sums, of negatives, in two orders
--- window R m n f g k     == that sum of products;  product_at == it is the product's k-th coefficient, for every k
--- window-neg             == of a second factor's negative
+-- sum R n h          == h 0 + .. + h (n - 1);  sum_split, sum-⊕, sum-neg, sum_swap == of two stretches, of sums, of negatives, in two orders
+-- window R m n f g k == that sum of products;  product_at == it is the product's k-th coefficient, for every k
+-- window-neg         == of a second factor's negative
 use Rattle.std.specs.Prelude.{◌≡◌}
 use Rattle.std.proofs.Math.Path.{refl, ap, ap₂, sym}
 use Rattle.std.proofs.Common.{◌∙◌, arith, add-zero, add-suc}

@@ -6,17 +6,17 @@
 -- dot-turn, dot_end                == what one way asks for is what `dot` does, and so is its sum
 -- two-words, two_ways, two-sum     == a box of two ways in plain words
 -- Alike                            == two boxes over the same pairs
--- alike_swap, -inside, -then, -one == neighbours exchanged; below a way; one after the other; a way of one pair
+-- alike_swap, _inside, _then, _one == neighbours exchanged; below a way; one after the other; a way of one pair
 -- alike_ready, alike_sum           == the code may take the one for the other
 -- rows_below, rows_across, columns_below == the orders of the five ways
--- Laid                             == an element of level i is a box, f words on
--- laid_zero, laid_up, laid_as      == a residue; one level more; a box like it
--- run_box                          == n pairs of elements are a box
--- levels, offsets, laid_levels     == the windows of the levels up to k + 1, and that an element of a level up to there is laid out so
--- pairs-ready, pairs-sum           == what their box asks for, and what its sum is
--- pairs-place, pairs_small         == where it starts is inside; an element is small
--- size_grows                       == an element of a higher level has more words
--- window-place, -start, window-is  == the place and the start of a window do not wrap, and the code's window is the level's
+-- Laid                            == an element of level i is a box, f words on
+-- laid_zero, laid_up, laid_as     == a residue; one level more; a box like it
+-- run_box                         == n pairs of elements are a box
+-- levels, offsets, laid_levels    == the windows of the levels up to k + 1, and that an element of a level up to there is laid out so
+-- pairs-ready, pairs-sum          == what their box asks for, and what its sum is
+-- pairs-place, pairs_small        == where it starts is inside; an element is small
+-- size_grows                      == an element of a higher level has more words
+-- window-place, -start, window-is == the place and the start of a window do not wrap, and the code's window is the level's
 use mathlib.Core.Path.{◌≡◌, refl, sym, ap, ap₂, subst, ◌∙◌, fun_ext}
 use mathlib.Core.List.{List, [], ◌∷◌}
 use mathlib.Core.Logic.{◌⊎◌, inl, inr}

@@ -1,11 +1,11 @@
 -- Laws of the sums over pairs of elements of level 1, and that they are what n pairs of any level come to. Assumes nothing.
 --
--- line_narrow, line_small, line_inside    == the size and the place do not wrap; the window's first coefficients are inside
--- line-rows, line_columns                 == what the rows of a window ask for, by either way through it
--- rows-line, columns_line, none-line      == and what their sum is; no pairs
--- picked_ready, picked_line               == operands in the store or in lent words
--- line-run                                == what n pairs come to is `run_at` at level 1
--- line-ready, line_reached, line_few      == what is known of pairs of elements of level 1, in numbers alone
+-- line_narrow, line_small, line_inside == the size and the place do not wrap; the window's first coefficients are inside
+-- line-rows, line_columns              == what the rows of a window ask for, by either way through it
+-- rows-line, columns_line, none-line   == and what their sum is; no pairs
+-- picked_ready, picked_line            == operands in the store or in lent words
+-- line-run                             == what n pairs come to is `run_at` at level 1
+-- line-ready, line_reached, line_few   == what is known of pairs of elements of level 1, in numbers alone
 use mathlib.Core.Path.{◌≡◌, sym, ap, ap₂, subst, ◌∙◌, fun_ext}
 use mathlib.Core.List.{List, [], ◌∷◌}
 use Prim.Native.Nat.{ℕ, suc, ◌+◌, ◌-◌, ◌*◌, ◌^◌, ◌<◌, ◌≤◌}

@@ -1,13 +1,13 @@
 -- Laws of tiles, and of the sums of elements of two and of four coefficients that are made of them. Assumes nothing.
 --
--- tile-words                    == the words of the k-th pair
--- Tiled, TileRoom               == k of n pairs are added to the three sums; room for the next
--- tile-start, -room, -next, -end == none is; room for the next; one more; all of them
+-- tile-words      == the words of the k-th pair
+-- Tiled, TileRoom == k of n pairs are added to the three sums; room for the next
+-- tile-start, -room, -next, _end == none is; room for the next; one more; all of them
 -- dots-one, dots_split          == windows of one pair are pairs; a window in two parts
 -- Held, held_low, held-ready, held_next == what three sums hold, where they begin, what a tile asks of them, and what it makes of them
 -- line-place                    == a residue of the first elements is inside
 -- three-ready, three-sums, three-none == one tile is the three sums of two coefficients
--- seven-first, -half, -second, -third, seven-sums, seven-none == four tiles are the seven sums of four
+-- seven-first, _half, _second, _third, seven-sums, seven-none == four tiles are the seven sums of four
 -- picked_three, picked_seven    == operands in the store or in lent words
 use mathlib.Core.Path.{◌≡◌, sym, ap, ap₂, subst, ◌∙◌, fun_ext}
 use mathlib.Core.List.{List}

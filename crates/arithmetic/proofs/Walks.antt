@@ -4,7 +4,7 @@
 -- grid_swap                         == rows and columns of a sum over two places exchanged
 -- product_small                     == a product of two words that may be read fits a word
 -- Folded                            == k of n terms are added, each by w folds
--- folded_start, -room, -next, -end  == none is; room for the next; one more; all of them
+-- folded_start, _room, _next, _end  == none is; room for the next; one more; all of them
 -- residues_zero, residues_suc       == what `Residues` says at level 0, and above
 -- pick_true, pick_false, pick_short == the store, or the lent words; either is as short as a list is
 -- pairs-none                        == no pairs

@@ -1,13 +1,13 @@
 -- Sums of products of words over boxes. A way through two lists is a number of pairs and how many words apart they stand, upwards in the one and downwards
 -- in the other (walk::Way); a box is a list of ways, the outermost first.
 --
--- way n s            == n pairs, s words apart
--- box_at x y L a b    == what the pairs of a box come to, from a in x and down to b in y;  box_at-none, box_at-way == of no way, and of one more
--- BoxOf L x a        == the words that it reads are numbers below 2^32;                   box_of_none, box_of_way
--- volume L           == how many pairs there are;                                         volume-none, volume-way
--- BoxReady           == what the code asks for: some pairs, their words, and room for their sum
--- window_at d m i l   == the window of level l + 1 in elements of level i;                 window_below, window-above == of a level below i, and of another
--- five_ways           == a run, three windows, and c residues one behind the other
+-- way n s           == n pairs, s words apart
+-- box_at x y L a b  == what the pairs of a box come to, from a in x and down to b in y;  box_at-none, box_at-way == of no way, and of one more
+-- BoxOf L x a       == the words that it reads are numbers below 2^32;                   box_of_none, box_of_way
+-- volume L          == how many pairs there are;                                         volume-none, volume-way
+-- BoxReady          == what the code asks for: some pairs, their words, and room for their sum
+-- window_at d m i l == the window of level l + 1 in elements of level i;                 window_below, window-above == of a level below i, and of another
+-- five_ways         == a run, three windows, and c residues one behind the other
 use Rattle.std.specs.Prelude.{◌≡◌, Bool, true, false, List, [], ◌∷◌, ◌↔◌, ℕ, ◌+◌, ◌-◌, ◌*◌, ◌<◌, ◌≤◌, ltb, ℤ}
 use Rattle.std.proofs.Math.Path.{refl}
 use Rattle.std.proofs.Common.{lt-ltb, le-ltb}

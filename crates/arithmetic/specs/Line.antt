@@ -1,9 +1,9 @@
 -- Sums over pairs of elements of level 1, in numbers alone: an element of g coefficients has its degree word and g residues.
 --
 -- line_at x y g k n a b == what n pairs come to at the place k: `run_at` at level 1 (proofs/LineSums)
--- PlaceReached g k     == a place that two elements of g coefficients reach
--- LineReady            == the residues of n elements in either list, and room for their sum
--- TileReady, TileSums  == n pairs of two residues, `step` words apart: their words, with room for their sums; the sums t have become r
+-- PlaceReached g k      == a place that two elements of g coefficients reach
+-- LineReady             == the residues of n elements in either list, and room for their sum
+-- TileReady, TileSums   == n pairs of two residues, `step` words apart: their words, with room for their sums; the sums t have become r
 -- from_low s            == three sums of which the low one is s, and the others are 0
 -- three_at, ThreeSums   == the sums of the three places where elements of two coefficients meet, by their place
 -- seven_at, SevenSums   == those of the seven places where elements of four meet

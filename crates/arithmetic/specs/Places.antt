@@ -1,6 +1,6 @@
 -- Places in the row of coefficients of a product.
 --
--- wide g           == how many coefficients a product of two polynomials of g coefficients has
+-- wide g             == how many coefficients a product of two polynomials of g coefficients has
 -- keeps_at, loses_at == whether the k-th of them keeps old content, which g have; whether it is subtracted, as all from g on are
 use Rattle.std.specs.Prelude.{ℕ, ◌+◌, ◌-◌, Bool, ◌&&◌, ltb}
 use Rattle.tower.specs.Form.{implies}

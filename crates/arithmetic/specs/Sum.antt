@@ -1,10 +1,10 @@
 -- Sum and difference of elements and slots, as values and as words.
 --
--- gained G neg x y     == x + y in the group G, or x - y where neg
--- slot_gained           == the same of polynomials, on as many coefficients as the first has
--- gained_places        == an element above level 0 is gained coefficient by coefficient
--- Gained, RowGained    == what the code on an element, and on a slot, leaves in the store;  WordTerms, Terms, RowTerms == what it asks for
--- gained_number         == the same of residues, as numbers
+-- gained G neg x y  == x + y in the group G, or x - y where neg
+-- slot_gained       == the same of polynomials, on as many coefficients as the first has
+-- gained_places     == an element above level 0 is gained coefficient by coefficient
+-- Gained, RowGained == what the code on an element, and on a slot, leaves in the store;  WordTerms, Terms, RowTerms == what it asks for
+-- gained_number     == the same of residues, as numbers
 use Rattle.std.specs.Prelude.{ℕ, ◌+◌, ◌-◌, ◌*◌, ◌%◌, ◌<◌, ◌≤◌, ◌≡◌, Bool, true, false, List, [], ◌∷◌, ℤ, pos, length, get_or}
 use Rattle.std.proofs.Common.{sym, ap, ap₂, ◌∙◌}
 use Rattle.algebra.specs.Ring.{Group, negative_zero}

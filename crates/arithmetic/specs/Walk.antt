@@ -1,13 +1,13 @@
 -- Sums of products of words. Two lists hold elements of level i; for one place of each level below, what the pairs of residues that meet there come to,
 -- as a number.
 --
--- total n h            == h 0 + … + h (n - 1);  total_cong == of equal terms
--- dot_at, dots_at        == n pairs of residues, upwards in x and downwards in y, `step` words apart; rows of them, `apart` words apart
+-- total n h             == h 0 + … + h (n - 1);  total_cong == of equal terms
+-- dot_at, dots_at       == n pairs of residues, upwards in x and downwards in y, `step` words apart; rows of them, `apart` words apart
 -- pair_at d m x y i a b == of one pair of elements of level i, at a in x and at b in y: the number at the places m
 -- run_at                == of n pairs of elements
--- Readable, Residues   == a word that may be read as a number below 2^32; all residues of an element of level i
--- DotReady, PairsReady == what the code asks for: n pairs of residues; n pairs of elements
--- pick in w x          == the store w, or the lent words x
+-- Readable, Residues    == a word that may be read as a number below 2^32; all residues of an element of level i
+-- DotReady, PairsReady  == what the code asks for: n pairs of residues; n pairs of elements
+-- pick in w x           == the store w, or the lent words x
 use Rattle.std.specs.Prelude.{ℕ, zero, suc, ◌+◌, ◌-◌, ◌*◌, ◌^◌, ◌<◌, ◌≤◌, ◌≡◌, Bool, true, false, List, ℤ, pos, length, get_or}
 use Rattle.std.proofs.Common.{arith, ap₂}
 use Rattle.std.proofs.Math.Path.{refl}

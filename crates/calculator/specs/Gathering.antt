@@ -1,10 +1,10 @@
 -- What becomes of a byte of the input: it is gathered behind the bytes of its line, or it ends the line.
 --
--- next_line  == the number of the line behind this
--- Started    == a line of which no byte is gathered
--- Gathered   == one byte behind those gathered, of which the first line_bytes are held
--- Ended      == the line that was gathered is answered, and the next is started
--- Fed        == a byte 10 ends the line; any other is gathered, and what is kept stays
+-- next_line == the number of the line behind this
+-- Started   == a line of which no byte is gathered
+-- Gathered  == one byte behind those gathered, of which the first line_bytes are held
+-- Ended     == the line that was gathered is answered, and the next is started
+-- Fed       == a byte 10 ends the line; any other is gathered, and what is kept stays
 use Rattle.std.specs.Prelude.{◌≡◌, ℕ, ◌+◌, ◌%◌, ◌^◌, true, List, [], ◌∷◌, ◌++◌, take, ℤ}
 use Rattle.lines.specs.declared.Kept.{Kept}
 use Rattle.lines.specs.Kept.{Stepped}

@@ -1,8 +1,8 @@
 -- Laws of the call for C of the leading view. w is what the kernel's call shows, and s how many words it has.
 --
--- view-none             == none: the empty part
--- view-ready            == some: a and b have degree words
--- b_fits, view_b        == where b has the higher degree, its leading coefficient stands in its slot, and is the part;  a_some, a_fits, view_a == and else a's
+-- view-none      == none: the empty part
+-- view-ready     == some: a and b have degree words
+-- b_fits, view_b == where b has the higher degree, its leading coefficient stands in its slot, and is the part;  a_some, a_fits, view_a == and else a's
 use Rattle.capi.specs.ViewCodes.{part_code, ViewCoded}
 use Rattle.kernel.specs.Calls.{size_of}
 use Rattle.kernel.specs.Promises.{LeadingShown}

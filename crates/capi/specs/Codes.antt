@@ -4,7 +4,7 @@
 -- Plain                       == an answer that document 01 has: Done, a number from 1 to 11, or a level of at most 4
 -- refusal-plain, changed_plain == the answer of a call that gives a number of at most 11 is plain
 -- TowerCoded, SlotCoded, SumCoded, ProductCoded, DivisionCoded == the kernel's promise of the call, its answer told as a number
--- .. -coded-determined        == two results that a promise allows are equal
+-- .. _coded_determined        == two results that a promise allows are equal
 -- .. -said-plain              == what the kernel's call answers is plain;  .. -code_tells, that the number tells which answer it is, are in proofs/Codes
 use Rattle.std.specs.Prelude.{ℕ, zero, suc, ◌+◌, ◌≤◌, ◌≡◌, Bool, List, ℤ}
 use Rattle.std.proofs.Common.{arith, sym, ◌∙◌}

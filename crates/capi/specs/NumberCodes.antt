@@ -1,8 +1,8 @@
 -- What the calls for C promise whose answer holds numbers: work sizes and the residue of a fraction. The numbers go to places that are lent for them.
 --
--- written_by                 == what a lent place holds afterwards: what is given with Done, and what it held beside a number
+-- written_by                == what a lent place holds afterwards: what is given with Done, and what it held beside a number
 -- SizesCoded, FractionCoded == the kernel's promise of the call, its answer told as a number
--- .. -coded-determined      == two results that a promise allows are equal
+-- .. _coded_determined      == two results that a promise allows are equal
 -- .. -said-plain            == what the kernel's call answers is plain;  .. -code_tells, that the number tells which answer it is, are in proofs/Codes
 use Rattle.std.specs.Prelude.{ℕ, zero, suc, ◌≤◌, ◌≡◌, List, [], ◌∷◌, ◌⊎◌, ℤ}
 use Rattle.std.proofs.Common.{arith, sym, ◌∙◌, inl, inr}

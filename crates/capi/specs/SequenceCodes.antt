@@ -1,9 +1,9 @@
 -- What the calls for C promise of inverse and GCD, which may show a factor.
 --
--- sequence_plain           == an answer is plain: with a number that number, and else Done or a level of at most 4
--- InverseCoded, GcdCoded   == the kernel's promise of the call, its answer told as a number
--- .. -coded-determined     == two results that a promise allows are equal
--- .. -said-plain           == what the kernel's call answers is plain;  .. -code_tells, that the number tells which answer it is, are in proofs/Codes
+-- sequence_plain         == an answer is plain: with a number that number, and else Done or a level of at most 4
+-- InverseCoded, GcdCoded == the kernel's promise of the call, its answer told as a number
+-- .. _coded_determined   == two results that a promise allows are equal
+-- .. -said-plain         == what the kernel's call answers is plain;  .. -code_tells, that the number tells which answer it is, are in proofs/Codes
 use Rattle.std.specs.Prelude.{ℕ, zero, suc, ◌≤◌, ◌≡◌, refl, List, ◌⊎◌, ℤ}
 use Rattle.std.proofs.Common.{arith, sym, ap, ◌∙◌, subst, inl, inr}
 use Rattle.kernel.specs.Refusals.{Said, done, factor, refused}

@@ -1,7 +1,7 @@
 -- What the call for C promises of the leading view: which slot the part is of, where it starts and how many words it has. The call has no number.
 --
--- part_code            == 0 for an empty part, 1 for a part of a, 2 for one of b
--- ViewCoded           == the part that the kernel's definition has, told in three numbers
+-- part_code == 0 for an empty part, 1 for a part of a, 2 for one of b
+-- ViewCoded == the part that the kernel's definition has, told in three numbers
 -- view_coded_determined == two results that the promise allows are equal
 -- coded_words, view_coded_words == the words that three numbers name, and that they are those of the kernel's leading view
 use Rattle.std.specs.Prelude.{ℕ, zero, suc, ◌≡◌, refl, Bool, true, false, List, [], ℤ}

@@ -1,8 +1,8 @@
 -- C10 for every input: "Both zero: the zero slot. One zero: the other made monic, or the factor its leading coefficient shows."
 --
--- zero_slot_of            == the zero slot, as long as another slot
--- MadeMonic, ShowsIt    == that the call leaves x made monic; that it leaves the factor which the leading coefficient of x shows
--- gcd-both-zero         == both zero;  gcd_a_zero, gcd_b_zero == one zero: one of the two, of the other polynomial
+-- zero_slot_of       == the zero slot, as long as another slot
+-- MadeMonic, ShowsIt == that the call leaves x made monic; that it leaves the factor which the leading coefficient of x shows
+-- gcd-both-zero      == both zero;  gcd_a_zero, gcd_b_zero == one zero: one of the two, of the other polynomial
 use Rattle.std.specs.Prelude.{ℕ, suc, ◌≡◌, refl, ◌⊎◌, List, ◌∷◌, ℤ, negsuc, T}
 use Rattle.std.proofs.Common.{arith, sym, ◌∙◌, inl, inr}
 use Rattle.std.proofs.Math.Path.{ap, fun_ext}

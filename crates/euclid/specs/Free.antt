@@ -1,8 +1,8 @@
 -- A tower of one level without factors: p = 7 and z² + 1. So "without such factors" in demand 3 is not empty above level 0.
 --
--- prime_test, no_factor₀   == a computed test that p has no divisor strictly between 1 and p
--- rootless, no_factor      == a computed test that a quadratic polynomial over Z/p leaves a remainder by every z + a, so that it has no proper monic factor
--- free_7                   == the tower p = 7, z² + 1 is free
+-- prime_test, no_factor₀ == a computed test that p has no divisor strictly between 1 and p
+-- rootless, no_factor    == a computed test that a quadratic polynomial over Z/p leaves a remainder by every z + a, so that it has no proper monic factor
+-- free_7                 == the tower p = 7, z² + 1 is free
 use Rattle.std.specs.Prelude.{◌≡◌, Bool, not, [], ◌∷◌, ℕ, zero, suc, ◌-◌, ◌%◌, ◌≤◌, ◌<◌, T, eqb}
 use Rattle.std.proofs.Common.{ap, sym, ◌∙◌, subst, arith, T_not, ltb→lt, lit<}
 use Rattle.std.proofs.Math.Nat.{mod-eq-zero_of_dvd}

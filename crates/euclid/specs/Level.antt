@@ -1,10 +1,10 @@
 -- What the sequences need of a level, any level: its ring, the test for zero, what may be shown there in place of an answer, when that is right,
 -- and the partial inverse.
 --
--- Level           == these
--- Good L          == what the inverse of a level promises: u with u c = 1, or something shown that is right, and never number 11
--- Mon A           == a monic polynomial: its degree, and the coefficients under its leading 1
--- Factor R d m f  == demand 3's factor: f is monic, of degree 1 to d - 1, and divides the monic polynomial of degree d with the coefficients m;
+-- Level          == these
+-- Good L         == what the inverse of a level promises: u with u c = 1, or something shown that is right, and never number 11
+-- Mon A          == a monic polynomial: its degree, and the coefficients under its leading 1
+-- Factor R d m f == demand 3's factor: f is monic, of degree 1 to d - 1, and divides the monic polynomial of degree d with the coefficients m;
 --                    Factor₀ p h == the same at level 0
 -- beneath         == a level as the one above it sees it: more may be shown
 use Rattle.std.specs.Prelude.{◌≡◌, ◌⊎◌, ℕ, ◌≤◌, ◌<◌, Bool}

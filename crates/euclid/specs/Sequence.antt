@@ -2,8 +2,8 @@
 -- Over any level. Something may be carried beside each polynomial: nothing for the GCD, an element for an inverse, a pair for cofactors.
 -- (proofs/Sequence.antt: what it keeps, and the ways in which a turn can go.)
 --
--- Carry          == what is carried, and what happens to it
--- seq            == the sequence, with at most so many remainders;  turn == the rest of it, once the remainder is there;  seq_suc == one turn and the rest
+-- Carry == what is carried, and what happens to it
+-- seq   == the sequence, with at most so many remainders;  turn == the rest of it, once the remainder is there;  seq_suc == one turn and the rest
 -- Turned         == one turn: the next divisor is the remainder times i, and of lower degree
 -- seq_null       == where the remainder is zero, the divisor is the answer
 use Rattle.std.specs.Prelude.{◌≡◌, ℕ, zero, suc, ◌<◌}

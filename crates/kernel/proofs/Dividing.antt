@@ -2,12 +2,12 @@
 --
 -- monic-zero, monic-one            == the test of the leading coefficient: of a divisor zero, and of another by the words that it begins with
 -- monic-some, lead_few, lead_inside == the divisor's words: there is one for the degree, and the leading coefficient stands in them
--- slots_shape, monic-ready         == what is known when the tests of `slots` have given no number
--- division-first, division_end     == the number, from the one of those tests and from the monic test
--- division-shape, some_a, some-q   == what is known when the division has got no number either
--- divide-ready                     == what `divide` asks for;  store_serves, word_serves == the store to work in is long enough, at level 0 one word
--- clear_fits, work-cleared         == the work store is cleared;  work_untouched == at level 0 there is nothing to clear
--- division_refused, parted_done    == the promise;  division-plain == of numbers that went through a call
+-- slots_shape, monic-ready       == what is known when the tests of `slots` have given no number
+-- division-first, division_end   == the number, from the one of those tests and from the monic test
+-- division-shape, some_a, some-q == what is known when the division has got no number either
+-- divide-ready                   == what `divide` asks for;  store_serves, word_serves == the store to work in is long enough, at level 0 one word
+-- clear_fits, work-cleared       == the work store is cleared;  work_untouched == at level 0 there is nothing to clear
+-- division_refused, parted_done  == the promise;  division-plain == of numbers that went through a call
 use Rattle.kernel.proofs.Order.{then_first, then_next, zero_of}
 use Rattle.kernel.proofs.Shapes.{size-found, slot-words}
 use Rattle.kernel.proofs.Summing.{refused_by, done_by}

@@ -1,10 +1,10 @@
 -- Laws of the GCD of two polynomials.
 --
--- elements_copied        == elements that are copied
--- gcd_refused            == the call with a number
+-- elements_copied == elements that are copied
+-- gcd_refused     == the call with a number
 -- gcd-shape, slots_some, few_counts == with none N and the degrees are in range, the slots have words, and the degree words count few
--- g-length, f-length     == the lengths of the slots and of the factor buffer
--- A, by, given           == the sequence's answer, and the call by it
+-- g-length, f-length == the lengths of the slots and of the factor buffer
+-- A, by, given       == the sequence's answer, and the call by it
 -- few_words, a_inside, b_inside == the words that are copied into the work store;  find_ready == then the sequence may run
 -- sought_done            == what it leaves;  Sought, sought == what it came to
 -- sought-plain, gcd-plain == the same of the numbers before they went through a call

@@ -2,8 +2,8 @@
 --
 -- product_refused, product_done == what the call gives with a number, and with none
 -- product_tested, product-shape, product-some == what is known where no number is given
--- multiply-ready                == the core may multiply;  multiply-whole == what it leaves in c is the whole of the product's slot
--- product-plain                 == the same of the numbers before they went through a call
+-- multiply-ready == the core may multiply;  multiply-whole == what it leaves in c is the whole of the product's slot
+-- product-plain  == the same of the numbers before they went through a call
 use Rattle.kernel.proofs.Order.{zero_of}
 use Rattle.kernel.proofs.Shapes.{size-found}
 use Rattle.kernel.proofs.Slotting.{slots_passed, slots_shape, slots_plain, shape_sized, shape-low, shape-work}

@@ -1,7 +1,7 @@
 -- Laws of what a remainder sequence in the store came to, by its result, and of a factor that is shown.
 --
--- shown_buffer              == the factor buffer once it is cleared and a factor's words are copied into it
--- Inverts, Shows, Gives     == an inverse is given, a factor is shown, a GCD is given, and its words stand at a place
+-- shown_buffer          == the factor buffer once it is cleared and a factor's words are copied into it
+-- Inverts, Shows, Gives == an inverse is given, a factor is shown, a GCD is given, and its words stand at a place
 -- shows_level, shows_few, shows_buffer == the level of a factor is one of the tower's, it has few words, and they are those that the factor buffer shows
 -- came_done .. came_long    == the three results of an inverse;  reached_inverse .. reached_endless == those with a place
 -- finds_greatest .. finds_never == the three results of a GCD

@@ -1,10 +1,10 @@
 -- Laws of the tests that product and division share, and of what is known where none of them gives a number.
 --
 -- needed-one, needed-quotient, needed-zero, needed-product == the coefficients that an answer needs, case by case
--- slots_first .. slots_end     == the number, test by test, with the values that the calls gave;  slots_counts == the degree words that are read count few
--- three-allowed, three-some    == three slots of allowed lengths, and that they have words
--- slots_passed                 == no number: everything is tested;  slots_shape == N and the degrees are in range
--- slots_plain, slots_ready     == the core may work: with the numbers as they were handed over, and with the values that the calls gave
+-- slots_first .. slots_end  == the number, test by test, with the values that the calls gave;  slots_counts == the degree words that are read count few
+-- three-allowed, three-some == three slots of allowed lengths, and that they have words
+-- slots_passed              == no number: everything is tested;  slots_shape == N and the degrees are in range
+-- slots_plain, slots_ready  == the core may work: with the numbers as they were handed over, and with the values that the calls gave
 -- held_stands, held-length, held-modulus, held-positive == a tower that is held: its words stand and are all, its modulus and its degrees
 -- tower_holds, a_holds, b_holds == the tower and the two polynomials stand;  a_long, b_long, c_long == the lengths of the slots;
 -- allowed_long, count_low, count-words == a slot of an allowed length: its words, few coefficients, few words of those that its degree word counts

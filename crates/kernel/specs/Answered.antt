@@ -1,8 +1,8 @@
 -- What the calls that run a remainder sequence share: the answer of a sequence as the call's answer, and the words that it leaves.
 --
--- answered                == after the tests: what the sequence gives, or the number and the words as found
--- factor_buffer            == the factor buffer with the words of a shown factor
--- level_of, tower_in        == the level of the tower whose words are t
+-- answered           == after the tests: what the sequence gives, or the number and the words as found
+-- factor_buffer      == the factor buffer with the words of a shown factor
+-- level_of, tower_in == the level of the tower whose words are t
 use Rattle.std.specs.Prelude.{ℕ, zero, suc, ◌-◌, List, [], ◌∷◌, ◌++◌, ℤ, pos, T, length}
 use Rattle.residue.specs.Word.{num}
 use Rattle.tower.specs.Form.{copies}

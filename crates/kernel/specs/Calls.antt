@@ -1,7 +1,7 @@
 -- What each public call gives, for every input: the numbers that nobody has looked at, and the lent words. What these definitions stand on is listed in docs/MATHEMATICS.md.
 --
--- tower_table, slot_table, work_table  == the tests of a call in the order of document 01's numbers;  tower_number .. == the number that they give, 0 for none
--- coefficients_of, length_ok, form_ok  == the coefficients of a slot; its length is allowed; it is in form
+-- tower_table, slot_table, work_table == the tests of a call in the order of document 01's numbers;  tower_number .. == the number that they give, 0 for none
+-- coefficients_of, length_ok, form_ok == the coefficients of a slot; its length is allowed; it is in form
 -- check_tower, check_slot, work_sizes, fraction == what the calls give
 use Rattle.std.specs.Prelude.{ℕ, zero, suc, ◌*◌, ◌%◌, Bool, true, false, ◌&&◌, List, [], ◌∷◌, ◌++◌, ℤ, pos, T, length}
 use Rattle.std.specs.Int.Signed.{lt_z}

@@ -1,12 +1,12 @@
 -- What a division leaves where no number is given: the quotient and the remainder, whole, in the slots q and a, and a work store that is cleared as far as it was
 -- needed. A and B are the coefficients that a and b held; Q and R those that q and a hold afterwards.
 --
--- top-lead                        == the leading coefficient of what is not zero stands at its degree
--- monic_iff                       == number 8 is kept away precisely where b is not zero and its leading coefficient is 1
--- division_blind                  == "Contents of answer slots .. and work store are not tested.";  division_numbers == no number above 8 is given
--- division-tower                  == where no number is given t is the words of exactly one tower, and p is in range;  division-ring == its topmost ring is
+-- top-lead       == the leading coefficient of what is not zero stands at its degree
+-- monic_iff      == number 8 is kept away precisely where b is not zero and its leading coefficient is 1
+-- division_blind == "Contents of answer slots .. and work store are not tested.";  division_numbers == no number above 8 is given
+-- division-tower == where no number is given t is the words of exactly one tower, and p is in range;  division-ring == its topmost ring is
 --                                    computed in
--- remainder-words, quotient-words == a's slot afterwards is filled with the remainder, q's with the quotient;  .. -written == the whole of each, in form
+-- remainder-words, quotient-words == a's slot afterwards is filled with the remainder, q's with the quotient;  .. _written == the whole of each, in form
 -- divisor_below, divisor_monic    == B has the degree divisor_degree b, and there the coefficient 1
 -- division_meaning                == A = Q · B + R
 -- remainder_below                 == R is zero from the degree of B on

@@ -1,12 +1,12 @@
 -- Division by a monic polynomial over the tower's top ring: the remainder replaces a, the quotient goes into a slot q. The work store v is cleared as far as it
 -- is needed.
 --
--- divisor_degree                 == the divisor's degree;  monic_words, monic_row == the test that the words of its leading coefficient are those of 1
+-- divisor_degree                  == the divisor's degree;  monic_words, monic_row == the test that the words of its leading coefficient are those of 1
 -- division_table, division_number == the tests in the order of their numbers, and the number that they give
--- divisor_of                     == the divisor's coefficients under its leading 1
+-- divisor_of                      == the divisor's coefficients under its leading 1
 -- remainder_of, remainder_words   == the remainder's coefficients, and the words of a's slot after Done
 -- quotient_of, quotient_words     == the quotient's, and the words of q's slot
--- division                      == what the call gives, and the words of a, of q and of the work store afterwards
+-- division                        == what the call gives, and the words of a, of q and of the work store afterwards
 use Rattle.std.specs.Prelude.{ℕ, ◌-◌, Bool, ◌&&◌, List, [], ◌∷◌, ◌++◌, ℤ, T, leb}
 use Rattle.algebra.specs.Divide.{quotient, remainder}
 use Rattle.algebra.specs.Test.{branch}

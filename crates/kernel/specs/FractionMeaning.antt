@@ -2,8 +2,8 @@
 --
 -- Coprime, NoResidue == e is positive and nothing above 1 divides both p and e; or one of these is not so
 -- fraction-zero, fraction-one, fraction_ten == each number is given exactly where it is so;  fraction_numbers == no other number is given
--- ResidueOf p n e r  == r is below p, and e times r is n modulo p;  mod_z_negative == what n modulo p is below 0
--- fraction-residue   == where no number is given the residue is so;  fraction_only == and nothing else is
+-- ResidueOf p n e r == r is below p, and e times r is n modulo p;  mod_z_negative == what n modulo p is below 0
+-- fraction-residue  == where no number is given the residue is so;  fraction_only == and nothing else is
 -- fraction-answers, fraction_gives == the same of what the call says and gives
 -- FractionMeans, fraction-says, fraction_given == for each number what it says, and that it is given precisely then
 use Prim.Native.Nat.{ℕ, zero, suc, ◌+◌, ◌-◌, ◌*◌, ◌%◌, ◌≤◌, ◌<◌, ◌∣◌}

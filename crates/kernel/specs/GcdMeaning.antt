@@ -1,18 +1,18 @@
 -- What a GCD leaves where no number is given: the whole of the GCD in g's slot, or a factor in the factor buffer, and a work store that is cleared as far as it was
 -- needed. A and B are the polynomials that a and b hold, G the one that g holds afterwards.
 --
--- polynomial_in      == the polynomial that a slot holds, over the ring of the tower
--- gcd_blind         == "Contents of answer slots, factor buffer and work store are not tested.";  gcd_numbers == no test gives a number above 7
--- gcd_tower         == where no number is given t is the words of exactly one tower, and p is in range;  gcd-ring == its topmost ring is computed in
--- gcd-kind          == Done or a factor is said;  gcd_done, gcd_factor == each precisely where the sequence gives a GCD, shows a factor;
+-- polynomial_in == the polynomial that a slot holds, over the ring of the tower
+-- gcd_blind     == "Contents of answer slots, factor buffer and work store are not tested.";  gcd_numbers == no test gives a number above 7
+-- gcd_tower     == where no number is given t is the words of exactly one tower, and p is in range;  gcd-ring == its topmost ring is computed in
+-- gcd-kind      == Done or a factor is said;  gcd_done, gcd_factor == each precisely where the sequence gives a GCD, shows a factor;
 --                      gcd-level == its level is at most 4
 -- made_below, gcd_fits == the coefficients that a GCD counts are all, and the answer's slot has room for them
 -- GcdHeld           == demand 3's description of a GCD
 -- GcdLeft, gcd-left == what is left with a GCD;  gcd-held == what g holds then is so described;  gcd_only == nothing else is
 -- GcdShown, gcd_shown == what is left with a factor: demand 3's
--- gcd_refused       == with a number every lent word is as found
--- gcd-free          == a modulus and tower without factors get their GCD
--- GcdSame           == what two runs share whose g, factor buffers and work stores have the same lengths;  gcd-two_runs == that they do
+-- gcd_refused == with a number every lent word is as found
+-- gcd-free    == a modulus and tower without factors get their GCD
+-- GcdSame     == what two runs share whose g, factor buffers and work stores have the same lengths;  gcd-two_runs == that they do
 use Rattle.std.specs.Prelude.{ℕ, suc, ◌-◌, ◌<◌, ◌≤◌, ◌≡◌, refl, ◌⊎◌, ◌↔◌, List, ℤ, pos, T, length, get_or}
 use Rattle.std.proofs.Common.{arith, sym, ap, ◌∙◌, subst}
 use Rattle.algebra.specs.Divisor.{Dvd}

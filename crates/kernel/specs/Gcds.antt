@@ -1,10 +1,10 @@
 -- GCD of two polynomials over the tower's top ring, into a slot g, or a shown factor into the factor buffer f. The work store v is cleared as far as it is
 -- needed.
 --
--- gcd_room             == the coefficients that the answer's slot needs;  gcd_needed == the work words
+-- gcd_room              == the coefficients that the answer's slot needs;  gcd_needed == the work words
 -- gcd_table, gcd_number == the tests in the order of their numbers, and the number that they give
--- gcd_words            == what the sequence's answer leaves of the lent words
--- gcd                 == what the call gives, and the words of g, of f and of the work store afterwards
+-- gcd_words             == what the sequence's answer leaves of the lent words
+-- gcd                   == what the call gives, and the words of g, of f and of the work store afterwards
 use Rattle.std.specs.Prelude.{ℕ, max, ◌&&◌, List, [], ◌∷◌, ◌++◌, ℤ, T, leb, length}
 use Rattle.algebra.specs.Test.{branch}
 use Rattle.residue.specs.Word.{num}

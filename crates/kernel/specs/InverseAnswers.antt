@@ -1,7 +1,7 @@
 -- What the numbers 0 to 5, 7 and 9 say of an inverse, and that number 11 is never given.
 --
 -- ElementLong        == "element and factor buffer: exactly S_N";  element_iff == it is what the test of a length says
--- element_words       == the words of an element;  element-is == the element that is read is the one whose words are given;  inverted == what its inverse gives
+-- element_words      == the words of an element;  element-is == the element that is read is the one whose words are given;  inverted == what its inverse gives
 -- InverseMeans       == for each number what it says; a number that is not used says ⊥
 -- inverse-says       == a number that is given comes under its condition;  inverse_given == and under its condition it is given
 -- inverse_sequence   == what is given where no number applies: the sequence's answer;  inverse_ends, inverse_unrefused == which is not number 11

@@ -1,15 +1,15 @@
 -- What an inverse leaves where no number is given: the inverse in r, or a factor in the factor buffer, and a work store that is cleared as far as it was needed.
 -- C is the element that c holds.
 --
--- inverse_blind        == "Contents of answer slots, factor buffer and work store are not tested.";  inverse_numbers == no test gives a number above 9
--- inverse_tower        == where no number is given t is the words of exactly one tower, and p is in range;  inverse-ring == its topmost ring is computed in
--- inverse-element      == c is the words of C, which is not zero
--- inverse-kind         == Done or a factor is said;  inverse_done, inverse_factor == each precisely where the sequence gives an inverse, shows a factor;
+-- inverse_blind   == "Contents of answer slots, factor buffer and work store are not tested.";  inverse_numbers == no test gives a number above 9
+-- inverse_tower   == where no number is given t is the words of exactly one tower, and p is in range;  inverse-ring == its topmost ring is computed in
+-- inverse-element == c is the words of C, which is not zero
+-- inverse-kind    == Done or a factor is said;  inverse_done, inverse_factor == each precisely where the sequence gives an inverse, shows a factor;
 --                         inverse-level == its level is at most 4
 -- InverseLeft, inverse_left   == what is left with an inverse: u · C = 1;  InverseShown, inverse_shown == what is left with a factor: demand 3's
--- inverse_refused      == with a number every lent word is as found
--- inverse-free         == a modulus and tower without factors get the inverse of every element that is not zero
--- InverseSame          == what two runs share whose r, factor buffers and work stores have the same lengths;  inverse-two_runs == that they do
+-- inverse_refused == with a number every lent word is as found
+-- inverse-free    == a modulus and tower without factors get the inverse of every element that is not zero
+-- InverseSame     == what two runs share whose r, factor buffers and work stores have the same lengths;  inverse-two_runs == that they do
 use Rattle.std.specs.Prelude.{ℕ, suc, ◌<◌, ◌≤◌, ◌≡◌, refl, ◌⊎◌, ◌↔◌, List, ℤ, pos, T, length, get_or}
 use Rattle.std.proofs.Common.{sym, ap, ◌∙◌, subst}
 use Rattle.algebra.specs.Ring.{CRing}

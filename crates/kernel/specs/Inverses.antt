@@ -2,9 +2,9 @@
 -- as it is needed.
 --
 -- inverse_table, inverse_number == the tests in the order of their numbers, and the number that they give
--- element_of                   == the element that the words hold
--- inverse_words                == what the sequence's answer leaves of the lent words
--- inverse                     == what the call gives, and the words of r, of f and of the work store afterwards
+-- element_of                    == the element that the words hold
+-- inverse_words                 == what the sequence's answer leaves of the lent words
+-- inverse                       == what the call gives, and the words of r, of f and of the work store afterwards
 use Rattle.std.specs.Prelude.{ℕ, Bool, not, ◌&&◌, List, [], ◌∷◌, ◌++◌, ℤ, T, eqb, leb, length}
 use Rattle.algebra.specs.Test.{branch}
 use Rattle.residue.specs.Word.{num}

@@ -2,14 +2,14 @@
 -- number exactly where it is the first whose condition holds.
 --
 -- DegreesIn n e     == N and the degrees are in range;  InRange p n e == and p;  ones == then 1 and 0 differ at every level
--- TowerOf, words_of  == the towers that they allow, and their words
+-- TowerOf, words_of == the towers that they allow, and their words
 -- TowerMeans        == for each number what it says; a number that is not used says ⊥
 -- shape_in, shape_tests == the tests of N and the degrees, passed;  degrees-two == the degrees in use are at least 2
--- shape-out         == N and the degrees out of range give number 2
--- tower-says        == a number that is given comes under its condition;  tower_given == and under its condition it is given
--- tower-answers     == the same of what the call says
--- tower_behind      == the number where other tests stand behind those of a tower;  then_says, then_given == what it says
--- tower-passes      == the words of every tower in range get no number;  tower_numbers == no number above 3 is given
+-- shape-out     == N and the degrees out of range give number 2
+-- tower-says    == a number that is given comes under its condition;  tower_given == and under its condition it is given
+-- tower-answers == the same of what the call says
+-- tower_behind  == the number where other tests stand behind those of a tower;  then_says, then_given == what it says
+-- tower-passes  == the words of every tower in range get no number;  tower_numbers == no number above 3 is given
 use Prim.Native.Nat.{ℕ, zero, suc, ◌<◌, ◌≤◌}
 use Rattle.std.specs.Prelude.{◌≡◌, refl, not, ◌↔◌, List, [], ◌∷◌, ◌++◌, ℤ, pos, T, get_or}
 use Rattle.std.proofs.Common.{sym, ap, ◌∙◌, subst, lt_irrefl, arith, T_not}

@@ -1,11 +1,11 @@
 -- What the parts of a call ask for and give behind its tests: at level 0, and once a remainder sequence has run.
 --
--- NumberReady, NumberGiven  == the inverse at level 0
--- FactorFits                == a shown factor's words stand in the work store, and the factor buffer has room for them
--- EndedReady, EndedGiven    == the answer of an inverse above level 0, whose words stand in the work store
--- NeededReady               == the slots and the shape of which the GCD's work words are counted
--- SoughtReady, SoughtDone   == the sequence of a GCD
--- FoundReady, FoundGiven    == the answer of a GCD, whose words stand in the work store;  GreatestFits, GreatestGiven == where it is a polynomial
+-- NumberReady, NumberGiven == the inverse at level 0
+-- FactorFits               == a shown factor's words stand in the work store, and the factor buffer has room for them
+-- EndedReady, EndedGiven   == the answer of an inverse above level 0, whose words stand in the work store
+-- NeededReady              == the slots and the shape of which the GCD's work words are counted
+-- SoughtReady, SoughtDone  == the sequence of a GCD
+-- FoundReady, FoundGiven   == the answer of a GCD, whose words stand in the work store;  GreatestFits, GreatestGiven == where it is a polynomial
 use Rattle.std.specs.Prelude.{ℕ, ◌+◌, ◌-◌, ◌*◌, ◌^◌, ◌<◌, ◌≤◌, ◌≡◌, List, ℤ, T, length, get_or}
 use Rattle.residue.specs.Word.{num}
 use Rattle.tower.specs.Form.{seg}

@@ -2,7 +2,7 @@
 --
 -- product_table, product_number == the tests in the order of their numbers, and the number that they give
 -- product_of, product_words     == the product's coefficients, and the words of c's slot after Done
--- product                     == what the call gives, and the words of c and of the work store afterwards
+-- product                       == what the call gives, and the words of c and of the work store afterwards
 use Rattle.std.specs.Prelude.{ℕ, List, ℤ, T}
 use Rattle.algebra.specs.Series.{◌*ˢ◌}
 use Rattle.algebra.specs.Test.{branch}

@@ -2,7 +2,7 @@
 -- Lists that are lent to be read only cannot change, by their type.
 --
 -- TowerChecked, SlotChecked, SizesGiven, FractionGiven, LeadingShown, SumGiven, ProductGiven, DivisionGiven, InverseGiven, GcdGiven == the promises
--- .. -determined == two results that a promise allows are equal
+-- .. _determined == two results that a promise allows are equal
 -- in_order == the tests of each call stand in the order of their numbers;  numbers_used == which these are
 use Rattle.std.specs.Prelude.{ℕ, ◌≡◌, refl, Bool, List, [], ◌∷◌, ℤ, T}
 use Rattle.std.proofs.Common.{sym, ◌∙◌}

@@ -6,7 +6,7 @@
 -- refusal, refusal_inj        == the answer that a number is, and that it tells the number
 -- ordered                     == the rows stand in the order of their numbers;  ordered_numbered == from 1 on, so none of them is 0
 -- first-append                == two tables, one behind the other
--- up_to, first-up_to           == no number of the table is above m;  then none above m is given
+-- up_to, first-up_to          == no number of the table is above m;  then none above m is given
 -- zero-unless                 == no number is given where a test passes and the rest gives none;  passed_of, first_of == exactly where every test passes
 -- first_applies               == a number that is given is the first that applies, and comes only under its condition;  first-is == the first that applies is given
 use Rattle.std.specs.Prelude.{ℕ, zero, suc, ◌≤◌, ◌≡◌, refl, Bool, true, false, not, ◌&&◌, List, [], ◌∷◌, ◌++◌, ◌⊎◌, T, leb}

@@ -5,11 +5,11 @@
 --                     of what is said, where the sequence refuses nothing
 -- ByAnswer         == a call says Done with what the sequence gives, and the level of what it shows;  said_never, said_done, said_factor, said-kind == what it says
 --                     where the sequence is not too long
--- refused_means    == what a call refuses tells the number, where the sequence refuses nothing
--- RunsSame         == what two runs share;  AnswerSame == what they leave by one answer of the sequence
+-- refused_means == what a call refuses tells the number, where the sequence refuses nothing
+-- RunsSame      == what two runs share;  AnswerSame == what they leave by one answer of the sequence
 -- answer-same, runs_same == from the latter the former
--- level-four       == the level of what is shown is at most 4
--- FactorLies       == a factor of the tower lies in the factor buffer;  factor_lies == so does what is rightly shown;
+-- level-four == the level of what is shown is at most 4
+-- FactorLies == a factor of the tower lies in the factor buffer;  factor_lies == so does what is rightly shown;
 --                     buffer_same == of the buffer before only the length matters
 use Rattle.std.specs.Prelude.{ℕ, zero, suc, ◌-◌, ◌+◌, ◌<◌, ◌≤◌, ◌≡◌, refl, ◌⊎◌, ◌↔◌, List, [], ◌∷◌, ◌++◌, ℤ, pos, T, length, get_or, take}
 use Rattle.std.proofs.Common.{lt_irrefl, arith, sym, ap, ◌∙◌, subst, inl, inr, ⊎_elim, length-append, take_at, get_or-append-add}

@@ -1,7 +1,7 @@
 -- The shape of a tower: its levels, degrees and sizes, as they go by value once numbers 1 and 2 have not been given.
 --
--- Known s        == the sizes are those of the degrees, and the machine has room for them
--- ShapeOf n e s  == s is the shape of N and four degrees that are in range
+-- Known s       == the sizes are those of the degrees, and the machine has room for them
+-- ShapeOf n e s == s is the shape of N and four degrees that are in range
 use Rattle.std.specs.Prelude.{ℕ, ◌^◌, ◌<◌, ◌≤◌, ◌≡◌, List, ℤ}
 use Rattle.tower.specs.Levels.{degree}
 use Rattle.tower.specs.Writing.{size}

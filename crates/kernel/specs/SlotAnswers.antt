@@ -2,16 +2,16 @@
 -- slot the answer goes to and the coefficients that it needs there, and what it tests by the numbers above 6. "Refusal numbers, tested in this order": each is
 -- tested of all that is lent before the next.
 --
--- Means k M             == k is the one number whose condition M holds
--- Each, OneOf           == P holds of each of some things, of one of them
+-- Means k M   == k is the one number whose condition M holds
+-- Each, OneOf == P holds of each of some things, of one of them
 -- SlotLong, WorkLong, WorkShort == a slot's length is allowed; the work store is long enough, or not
 -- HoldsOne, HoldsNone   == the words of a slot are those of exactly one polynomial, of none
 -- LengthsOut, FormsOut, RoomOut == numbers 4, 5 and 6;  LentHeld == none of 1 to 6 applies;  Further == and what a call tests besides
--- LentMeans             == for each number what it says; a number that is not used says ⊥
--- Told, lent_means      == what a call's tests say, and that the number which they give is the one that LentMeans holds of
+-- LentMeans        == for each number what it says; a number that is not used says ⊥
+-- Told, lent_means == what a call's tests say, and that the number which they give is the one that LentMeans holds of
 -- SlotsHeld, SlotsMeans, slots_means == the same where all lengths are those of slots
--- said_means            == what a call says tells the number;  le_iff, lt_iff == the test of two numbers
--- Allowed               == as many coefficients as a slot may have;  slot_held, degree-low == the words of such a polynomial over a tower;  slots_held ==
+-- said_means == what a call says tells the number;  le_iff, lt_iff == the test of two numbers
+-- Allowed    == as many coefficients as a slot may have;  slot_held, degree-low == the words of such a polynomial over a tower;  slots_held ==
 --                          those of two
 use Rattle.std.specs.Prelude.{ℕ, zero, suc, ◌+◌, ◌*◌, ◌<◌, ◌≤◌, ◌≡◌, refl, Bool, true, false, not, ◌&&◌, ◌⊎◌, ◌↔◌, List, [], ◌∷◌, ◌++◌, ℤ, T, leb, length}
 use Rattle.std.proofs.Common.{lt_irrefl, arith, sym, ap, ◌∙◌, subst, inl, inr, ⊎_elim, T_not, leb→le, le→leb}

@@ -1,7 +1,7 @@
 -- Laws of what the calls on polynomials share: what slots hold before and after, and the work store afterwards.
 --
--- Tested, tested       == what is known where a product or a division gets no number: the tests up to 7, and those that follow
--- tower-is, ring-held  == the tower, and the ring, are those of the one tower whose words are given
+-- Tested, tested      == what is known where a product or a division gets no number: the tests up to 7, and those that follow
+-- tower-is, ring-held == the tower, and the ring, are those of the one tower whose words are given
 -- held_below, held-top  == a slot in form holds a polynomial that is zero from its degree word's count on, and not zero under it
 -- held_low, held_few   == that count is not above what the polynomial is zero from, nor above its coefficients
 -- held-words           == the words of a coefficient

@@ -2,14 +2,14 @@
 -- polynomial; each other number exactly where it is the first whose condition holds.
 --
 -- PolynomialOf, slot_of == the polynomials of k coefficients over the topmost level, and their words
--- Room s l             == l words are a slot of 1 to 256 coefficients of s words;  room_iff == it is what the test of a length says
--- room-count           == the coefficients are as many as slot_count says
--- length_iff           == the test of a slot's length;  form_iff, none_iff == the test of its form, passed and not passed;  not_iff == any
+-- Room s l              == l words are a slot of 1 to 256 coefficients of s words;  room_iff == it is what the test of a length says
+-- room-count            == the coefficients are as many as slot_count says
+-- length_iff            == the test of a slot's length;  form_iff, none_iff == the test of its form, passed and not passed;  not_iff == any
 --                         test not passed;  none_of == any test of form not passed
--- SlotMeans            == for each number what it says; a number that is not used says ⊥
--- slot-says            == a number that is given comes under its condition;  slot_given == and under its condition it is given
--- slot-answers         == the same of what the call says
--- slot-passes          == over a tower every polynomial in a slot of an allowed length gets no number;  slot_numbers == no number above 5 is given
+-- SlotMeans    == for each number what it says; a number that is not used says ⊥
+-- slot-says    == a number that is given comes under its condition;  slot_given == and under its condition it is given
+-- slot-answers == the same of what the call says
+-- slot-passes  == over a tower every polynomial in a slot of an allowed length gets no number;  slot_numbers == no number above 5 is given
 use Prim.Native.Nat.{ℕ, zero, suc, ◌+◌, ◌-◌, ◌*◌, ◌/◌, ◌%◌, ◌<◌, ◌≤◌}
 use Rattle.std.specs.Prelude.{◌≡◌, refl, Bool, not, ◌↔◌, List, [], ◌∷◌, ℤ, T, leb, eqb, length}
 use Rattle.std.proofs.Common.{sym, ap, ◌∙◌, inr, mul-div_cancel, div-add-mod', arith, T_not, leb→le, le→leb, eqb→eq}

@@ -1,13 +1,13 @@
 -- What the calls on polynomials share: what a slot holds, the tests of several slots and of the work store, and what a call leaves of the words lent to it.
 --
--- degree_count                  == one more than the degree of what a slot holds, by its degree word: passed on from tower/specs/Writing.antt
+-- degree_count                   == one more than the degree of what a slot holds, by its degree word: passed on from tower/specs/Writing.antt
 -- polynomial_of, coefficients_in == the polynomial that a slot holds, and its coefficient function
--- forms_row                     == the test of the form of two slots
+-- forms_row                      == the test of the form of two slots
 -- product_room, quotient_room    == the coefficients that the answer's slot needs;  room_needed == of a division or else of a product
 -- slots_table, slots_number      == the tests of product and division up to number 7, and the number that they give
--- top_ring                      == R_N, the ring that the polynomials are over
--- filled                       == the words of a slot that holds given coefficients;  cleared == those of a work store after Done
--- Changed, changed_by           == an answer, and the words that the call may change as they are afterwards
+-- top_ring                       == R_N, the ring that the polynomials are over
+-- filled                         == the words of a slot that holds given coefficients;  cleared == those of a work store after Done
+-- Changed, changed_by            == an answer, and the words that the call may change as they are afterwards
 use Rattle.std.specs.Prelude.{ℕ, zero, suc, ◌+◌, ◌-◌, Bool, true, false, ◌&&◌, List, [], ◌∷◌, ◌++◌, ℤ, pos, T, leb, length, drop}
 use Rattle.algebra.specs.Ring.{CRing}
 use Rattle.algebra.specs.Vec.{Vec, coef, trunc}

@@ -2,7 +2,7 @@
 --
 -- sum_table, sum_number == the tests in the order of their numbers, and the number that they give
 -- sum_of, sum_words     == the sum, and the words of a's slot after Done
--- sum                 == what the two calls give, and a's words afterwards
+-- sum                   == what the two calls give, and a's words afterwards
 use Rattle.std.specs.Prelude.{ℕ, Bool, ◌&&◌, List, [], ◌∷◌, ◌++◌, ℤ, T, leb}
 use Rattle.algebra.specs.Test.{branch}
 use Rattle.algebra.specs.Vec.{Vec}

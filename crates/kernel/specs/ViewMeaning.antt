@@ -1,13 +1,13 @@
 -- What the leading view shows. The number behind it is given precisely under its condition; the part is empty precisely where a number applies or both polynomials
 -- are zero; and else it is the words of the leading coefficient of the one that has the higher degree.
 --
--- ViewMeans             == for each number what it says
--- view-says             == a number that is given comes under its condition;  view_given == and under its condition it is given;  view_numbers == none is above 5
--- Viewed, viewed        == no number: what the tests have shown
+-- ViewMeans      == for each number what it says
+-- view-says      == a number that is given comes under its condition;  view_given == and under its condition it is given;  view_numbers == none is above 5
+-- Viewed, viewed == no number: what the tests have shown
 -- part_b, part_a, part_none == which part it is
--- Leading               == where the part starts and ends and what its words are;  view_of_b, view_of_a == which slot it is of
--- SomeNumber, BothZero  == a number applies; none, and both are zero;  view_empty == the part is empty precisely then
--- view-some             == a part that is not empty comes without a number;  view_long == the words of the part are as many as it counts
+-- Leading              == where the part starts and ends and what its words are;  view_of_b, view_of_a == which slot it is of
+-- SomeNumber, BothZero == a number applies; none, and both are zero;  view_empty == the part is empty precisely then
+-- view-some            == a part that is not empty comes without a number;  view_long == the words of the part are as many as it counts
 use Rattle.std.specs.Prelude.{ℕ, zero, suc, ◌+◌, ◌-◌, ◌*◌, ◌<◌, ◌≤◌, ◌≡◌, refl, Bool, false, ◌⊎◌, ◌↔◌, List, [], ◌∷◌, ℤ, T, ltb, length}
 use Rattle.std.proofs.Common.{lt_irrefl, suc-mul, mul-le-mul_right, sym, ap, ◌∙◌, subst, inl, inr, ltb→lt, lt→ltb}
 use native.Mathlib.Omega.{arith}

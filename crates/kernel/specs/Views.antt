@@ -2,8 +2,8 @@
 -- slot itself. When any of 1 to 5 applies, or both are zero, it is an empty part; this call hands out no number."
 --
 -- view_table, view_number == the tests in the order of their numbers, and the number that they give
--- Part, leading_part     == a part of a or of b: which slot, where it starts and how many words it has
--- top_words              == the words of a slot's leading coefficient;  part_words == those of a part;  leading_view == those that the call shows
+-- Part, leading_part      == a part of a or of b: which slot, where it starts and how many words it has
+-- top_words               == the words of a slot's leading coefficient;  part_words == those of a part;  leading_view == those that the call shows
 use Rattle.std.specs.Prelude.{ℕ, zero, suc, ◌*◌, Bool, true, false, ◌&&◌, List, [], ◌∷◌, ◌++◌, ℤ, ltb}
 use Rattle.tower.specs.Form.{seg}
 use Rattle.kernel.specs.Calls.{size_of, length_ok, tower_table}

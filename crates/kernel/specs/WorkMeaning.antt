@@ -1,9 +1,9 @@
 -- What the numbers 0, 2 and 5 say of the work sizes, and what the call gives with them.
 --
--- WorkDegree     == a degree from -1 to 255;  WorkMeans == for each number what it says; a number that is not used says ⊥
--- work-says      == a number that is given comes under its condition;  work_given == and under its condition it is given
--- work-answers   == the same of what the call says;  work_gives == where no number is given it gives the formulas' three
--- work_numbers   == no number above 5 is given
+-- WorkDegree   == a degree from -1 to 255;  WorkMeans == for each number what it says; a number that is not used says ⊥
+-- work-says    == a number that is given comes under its condition;  work_given == and under its condition it is given
+-- work-answers == the same of what the call says;  work_gives == where no number is given it gives the formulas' three
+-- work_numbers == no number above 5 is given
 use Prim.Native.Nat.{ℕ, zero, suc, ◌≤◌}
 use Rattle.std.specs.Prelude.{◌≡◌, refl, ◌&&◌, ◌⊎◌, ◌↔◌, List, [], ◌∷◌, ℤ, negsuc}
 use Rattle.std.proofs.Common.{sym, ap, ◌∙◌, subst, arith, T_not}

@@ -1,10 +1,10 @@
 -- Laws of what a line says, case by case as the program's functions meet them.
 --
--- not_one, one_word               == `field`, by how many words were read
--- no_words, some_words            == `ext`
+-- not_one, one_word    == `field`, by how many words were read
+-- no_words, some_words == `ext`
 -- poly_alone, poly_empty, poly-first, poly_second, poly_other == `poly`, by its words and its name
--- neither_said                    == an operation whose operands are neither a nor a and b
--- inv-said, one_unsaid            == an operation with a, by its name
+-- neither_said         == an operation whose operands are neither a nor a and b
+-- inv-said, one_unsaid == an operation with a, by its name
 -- gcd-said, div-said, mul-said, two_unsaid == an operation with a and b
 -- too_long, name_alone            == a line of too many bytes; of one field
 -- after_field, after_ext, after-poly, after_operation == any other line, by its name

@@ -1,7 +1,7 @@
 -- Laws of slots and factors that are printed, from what the program's functions know of their degrees and sizes. Assumes nothing.
 --
--- opened-at                 == the end of a name and what is said of it
--- count_none, count-some    == at least one coefficient
+-- opened-at              == the end of a name and what is said of it
+-- count_none, count-some == at least one coefficient
 -- SlotKnown; slot_known, slot-form, slot-put == the words of the shortest slot, as an element of one level more
 -- slot_moved, element_moved == there is room also behind fewer bytes
 -- divided-line              == the line of a quotient and a remainder, from its texts

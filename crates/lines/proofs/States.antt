@@ -1,10 +1,10 @@
 -- Laws of what is kept between lines, as a state.
 --
--- begun, fielded_begun        == what is kept before the first line, and after `field`
--- extended-is                 == a level more
--- ext_room .. second_inside   == there is room for what a line carries
--- keeps_field .. keeps_same   == what is kept after each line
--- granted .. field_granted    == whether a line is allowed
+-- begun, fielded_begun      == what is kept before the first line, and after `field`
+-- extended-is               == a level more
+-- ext_room .. second_inside == there is room for what a line carries
+-- keeps_field .. keeps_same == what is kept after each line
+-- granted .. field_granted  == whether a line is allowed
 use Prim.Native.Nat.{ℕ, ◌+◌, ◌-◌, ◌<◌, ◌≤◌}
 use mathlib.Core.Bool.{true, false, not, true≢false}
 use mathlib.Core.List.{List, [], ◌∷◌, ◌++◌}

@@ -2,8 +2,8 @@
 --
 -- state_of, Sound              == what is kept as a state, and what holds of it
 -- Begins, Extended, AllowedBy, KeptBy == what is kept at the start, after `ext`, whether a line is allowed, and what is kept after it
--- WordStore .. OutStore       == the lengths of the stores
--- Told, Stepped               == what is printed for a line; a line read and answered
+-- WordStore .. OutStore == the lengths of the stores
+-- Told, Stepped         == what is printed for a line; a line read and answered
 use Rattle.std.specs.Prelude.{ℕ, suc, ◌+◌, ◌*◌, ◌<◌, ◌≤◌, true, false, List, ◌≡◌, ℤ, length, take, drop, set}
 use Rattle.text.specs.Appending.{Appended}
 use Rattle.text.specs.Fields.{most_words}

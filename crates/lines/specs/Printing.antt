@@ -1,10 +1,10 @@
 -- Words as text, by form: each behind a tab, degree words and residues by what they are.
 --
--- degree_at                  == whether a word of an element is a degree word
--- residue_text, degree_text   == the text of each
--- form_text                  == the first n words of an element; a slot is printed as an element of one level more
--- element_text, slot_text     == an element; the shortest slot that holds what a slot holds
--- factor_text                == the words of a shown factor
+-- degree_at                 == whether a word of an element is a degree word
+-- residue_text, degree_text == the text of each
+-- form_text                 == the first n words of an element; a slot is printed as an element of one level more
+-- element_text, slot_text   == an element; the shortest slot that holds what a slot holds
+-- factor_text               == the words of a shown factor
 -- DegreeTold, FormReady, FormPut == what the program's functions ask for and give
 use Rattle.std.specs.Prelude.{ℕ, zero, suc, ◌+◌, ◌*◌, ◌%◌, ◌≤◌, max, Bool, true, false, List, [], ◌∷◌, ◌++◌, ◌≡◌, ℤ, pos, length, get_or}
 use Rattle.tower.specs.Ready.{Sized}

@@ -1,9 +1,9 @@
 -- What a line says by itself, from its bytes.
 --
--- Meaning                   == what a line says
--- meaning_of                 == what the bytes of a line say
--- meant, Carried            == what the program's line says with the words of its store, and how many they are
--- Says, OperationSaid       == what the program's functions give
+-- Meaning             == what a line says
+-- meaning_of          == what the bytes of a line say
+-- meant, Carried      == what the program's line says with the words of its store, and how many they are
+-- Says, OperationSaid == what the program's functions give
 use Rattle.std.specs.Prelude.{ℕ, ◌≤◌, Bool, true, false, cond, List, [], ◌∷◌, ◌≡◌, leb, ℤ, length, take}
 use Rattle.text.specs.Fields.{fields_of, most_bytes, most_words, words_of}
 use Rattle.text.specs.Text.{same_text}

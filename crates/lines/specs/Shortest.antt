@@ -1,10 +1,10 @@
 -- What is printed of a slot is the shortest slot that holds the same polynomial, and it can be read again.
 --
--- SlotIn          == a slot of a length that is allowed, in form;  SameHeld == two of them hold the same coefficients
--- Least           == a slot that holds what x holds, and none that does has fewer words
--- shortest-slot   == "the shortest slot that holds the answer": the words that are printed are one
--- slot-printed    == and they are all that is printed
--- slot_again      == behind `poly` and a they are read as these words
+-- SlotIn        == a slot of a length that is allowed, in form;  SameHeld == two of them hold the same coefficients
+-- Least         == a slot that holds what x holds, and none that does has fewer words
+-- shortest-slot == "the shortest slot that holds the answer": the words that are printed are one
+-- slot-printed  == and they are all that is printed
+-- slot_again    == behind `poly` and a they are read as these words
 use Rattle.std.specs.Prelude.{ℕ, zero, suc, ◌+◌, ◌*◌, ◌^◌, ◌<◌, ◌≤◌, max, ◌≡◌, List, [], ◌∷◌, ◌++◌, T, ℤ, pos, length, take}
 use Rattle.std.proofs.Common.{sym, ap, ap₂, ◌∙◌, subst, zero-mul, suc-mul, mul-le-mul_right, one-add, arith, ltb→lt, length-take-le, get_or-take}
 use Rattle.std.proofs.Math.Nat.{le-max_left, le-max_right, max-le}

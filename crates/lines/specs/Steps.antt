@@ -1,11 +1,11 @@
 -- What a line comes to: what is printed, and what is kept.
 --
--- State, nothing              == what is kept between lines
--- allowed                     == a line that what is kept does not allow is unreadable
--- after                       == what is kept after a line
+-- State, nothing == what is kept between lines
+-- allowed        == a line that what is kept does not allow is unreadable
+-- after          == what is kept after a line
 -- lent_element, slot_words, lent == the lists that an operation lends
--- printed                     == what is printed for a line
--- lines_of, run, answers       == the lines of an input, and what is printed for them
+-- printed                == what is printed for a line
+-- lines_of, run, answers == the lines of an input, and what is printed for them
 use Rattle.std.specs.Prelude.{ℕ, suc, ◌+◌, ◌-◌, ◌*◌, ◌/◌, min, Bool, true, false, cond, ◌&&◌, List, [], ◌∷◌, ◌++◌, eqb, ltb, ℤ, pos, length, get_or, set}
 use Rattle.tower.specs.Form.{copies}
 use Rattle.kernel.specs.Calls.{size_of, shape_number}

@@ -1,8 +1,8 @@
 -- Whole inputs and what is printed for them, computed: the lines of an input, document 01's worked input, and what it says of single lines.
 --
--- text             == lines as bytes, a line end behind each
--- Lines, in_lines  == how an input falls into lines, and its proof
--- Worked, worked   == inputs with their answers, and the proof
+-- text            == lines as bytes, a line end behind each
+-- Lines, in_lines == how an input falls into lines, and its proof
+-- Worked, worked  == inputs with their answers, and the proof
 use Rattle.std.specs.Prelude.{ℕ, List, [], ◌∷◌, ◌++◌, ◌≡◌, refl}
 use Prim.Native.String.{String}
 use Rattle.algebra.specs.Divide.{divide}

@@ -1,9 +1,9 @@
 -- What is printed, read again: words that are printed by form are the fields of a line, and it is read as these words.
 --
--- no_line_end                 == no line end stands in a printed word
--- form_fields                 == the fields of words that are printed are their texts
--- form_short                  == n words of at most 10 digits take at most 12 times n bytes
--- form_again                  == words that are printed, behind `poly` and a, are read as these words
+-- no_line_end == no line end stands in a printed word
+-- form_fields == the fields of words that are printed are their texts
+-- form_short  == n words of at most 10 digits take at most 12 times n bytes
+-- form_again  == words that are printed, behind `poly` and a, are read as these words
 use Rattle.std.specs.Prelude.{◌≡◌, refl, Bool, true, false, ℕ, zero, suc, ◌*◌, ◌≤◌, ℤ, pos, length, get_or, take}
 use Rattle.std.proofs.Common.{sym, ap, ap₂, ◌∙◌, ⊎_elim, arith, le-leb, length-append, take-suc, length-take-le}
 use mathlib.Core.List.{List, [], ◌∷◌, ◌++◌, map, map-append, append_assoc, append-nil, Memᴰ}

@@ -1,10 +1,10 @@
 -- Laws of the division of slots: the row is divided from the top down, each coefficient made in the store and copied out.
 --
--- Descending                              == the row is divided from k on, its coefficients below g in a and the others in q, and below k a is as it was
--- divide-kept                             == a list for the quotient that is as long serves as well
--- placed_low, placed_high                 == a coefficient is copied into a, or into q
--- descending_top, -start                  == the top coefficient's places, and what its copying leaves
--- descending_below, -places, -product, -place, -next == one lower: places; what the product and its copying out ask for, and what they leave
+-- Descending              == the row is divided from k on, its coefficients below g in a and the others in q, and below k a is as it was
+-- divide-kept             == a list for the quotient that is as long serves as well
+-- placed_low, placed_high == a coefficient is copied into a, or into q
+-- descending_top, _start  == the top coefficient's places, and what its copying leaves
+-- descending_below, _places, _product, _place, _next == one lower: places; what the product and its copying out ask for, and what they leave
 -- descending_end                          == the bottom
 use Prim.Native.Nat.{ℕ, suc, ◌+◌, ◌-◌, ◌*◌, ◌<◌, ◌≤◌}
 use native.Mathlib.Nat.{mul-le-mul_right, suc-mul, add-mul, lt_irrefl}

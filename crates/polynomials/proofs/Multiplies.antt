@@ -1,13 +1,13 @@
 -- Laws of the product of slots: each coefficient is a sum of products made in the store and copied out.
 --
--- part_of_slot                 == the coefficients of a slot stand behind its degree word
--- below_count, slots_kept      == a polynomial is zero from its count on;  a store as long serves as well
--- times, placed, words_many    == multiples of a size; places; n elements have at least n words
--- count_left, count-both       == how many coefficients a product has
--- finish_places, finished      == the zeros and the degree word at the end of a slot
+-- part_of_slot              == the coefficients of a slot stand behind its degree word
+-- below_count, slots_kept   == a polynomial is zero from its count on;  a store as long serves as well
+-- times, placed, words_many == multiples of a size; places; n elements have at least n words
+-- count_left, count-both    == how many coefficients a product has
+-- finish_places, finished   == the zeros and the degree word at the end of a slot
 -- multiply_places, -product, -at == what a coefficient's product asks for, and what is left when it is copied out
 -- multiply_counts              == the counts are less than the lists' lengths
--- Multiplying; multiplying_start, -at, -less, -next, -finish, -end == the loop over the coefficients, and its end
+-- Multiplying; multiplying_start, _at, _less, _next, _finish, _end == the loop over the coefficients, and its end
 use Prim.Native.Nat.{ℕ, zero, suc, ◌+◌, ◌-◌, ◌*◌, ◌<◌, ◌≤◌}
 use native.Mathlib.Nat.{mul-le-mul_left, mul-le-mul_right, add-mul, lt_irrefl}
 use native.Mathlib.Omega.{arith}

@@ -1,7 +1,7 @@
 -- Laws of the division of slots: the row is divided, and both slots are ended.
 --
--- divide-row, -left, -quotient, -end      == what the division's steps ask for, and what they leave
--- divide_short                            == what is left where the divisor has the higher degree
+-- divide-row, -left, -quotient, _end == what the division's steps ask for, and what they leave
+-- divide_short                       == what is left where the divisor has the higher degree
 use Prim.Native.Nat.{ℕ, ◌+◌, ◌-◌, ◌*◌, ◌<◌, ◌≤◌}
 use native.Mathlib.Nat.{mul-le-mul_right, lt_irrefl}
 use native.Mathlib.Omega.{arith}

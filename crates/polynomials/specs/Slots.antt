@@ -1,8 +1,8 @@
 -- Product and division of slots: three lent lists and a store to work in.
 --
--- product_count ca cb       == how many coefficients a product of polynomials with ca and cb has, none where one is zero
--- slot_product              == the product on the coefficients of a slot
--- low_of                    == the g lowest coefficients;  slot_remainder, slot_quotient == of a division by the monic polynomial that they make, each on a slot
+-- product_count ca cb == how many coefficients a product of polynomials with ca and cb has, none where one is zero
+-- slot_product        == the product on the coefficients of a slot
+-- low_of              == the g lowest coefficients;  slot_remainder, slot_quotient == of a division by the monic polynomial that they make, each on a slot
 -- MultiplyReady, Multiplied, DivideReady, Parted and those of their steps == what the code asks for and leaves
 use Rattle.std.specs.Prelude.{ℕ, zero, suc, ◌+◌, ◌-◌, ◌*◌, ◌^◌, ◌<◌, ◌≤◌, ◌≡◌, ◌⊎◌, List, ℤ, length}
 use Rattle.algebra.specs.Ring.{CRing}

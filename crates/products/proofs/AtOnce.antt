@@ -1,9 +1,9 @@
 -- Laws of level 1 of a product of elements of level 1 with q coefficients whose sums are all made at once: then the coefficients are written one by one,
 -- from the top down.
 --
--- once_asks        == what the sums ask for
--- AtOnce           == nothing is written yet; what a coefficient asks for; one more; all of them
--- at_once          == the laws of it, where the sums are there
+-- once_asks == what the sums ask for
+-- AtOnce    == nothing is written yet; what a coefficient asks for; one more; all of them
+-- at_once   == the laws of it, where the sums are there
 use Prim.Native.Nat.{ℕ, suc, ◌+◌, ◌-◌, ◌*◌, ◌<◌}
 use native.Mathlib.Omega.{arith}
 use mathlib.Core.Path.{◌≡◌, refl, sym, ap, subst}

@@ -1,7 +1,7 @@
 -- Laws of the loop that makes the coefficients of a product, before they are divided.
 --
--- Filling                              == k coefficients are made, and the words of those to come are as before
--- filling_start, -asks, -next, -end    == at the beginning; what the next product asks for; what it leaves; at the end
+-- Filling                           == k coefficients are made, and the words of those to come are as before
+-- filling_start, _asks, _next, _end == at the beginning; what the next product asks for; what it leaves; at the end
 use Prim.Native.Nat.{ℕ, suc, ◌+◌, ◌*◌, ◌^◌, ◌<◌, ◌≤◌}
 use native.Mathlib.Nat.{mul-le-mul_left, mul-le-mul_right, suc-mul, lt_irrefl}
 use native.Mathlib.Omega.{arith}

@@ -1,9 +1,9 @@
 -- Laws of what a product may have changed in the store: its answer's words and words from top on.
 --
 -- worked_trans, worked-answer, worked-above, worked-wide == two after another; only the answer's words; only those from top on; a part of the answer
--- Same b l w w'           == the l words from b on are as before;  kept_same, worked_same == those outside a frame are
--- SameIn, picked_seg      == the same of an operand, where it is in the store;  elements_picked, inside_kept, operating_kept == so it is as it was
--- zeros_stand             == zeros written stand there
+-- Same b l w w'      == the l words from b on are as before;  kept_same, worked_same == those outside a frame are
+-- SameIn, picked_seg == the same of an operand, where it is in the store;  elements_picked, inside_kept, operating_kept == so it is as it was
+-- zeros_stand        == zeros written stand there
 -- tower-kept, lefts_kept, rights_kept, given_kept == what stands below top stays while words from top on change
 use Prim.Native.Nat.{ℕ, ◌+◌, ◌*◌, ◌<◌, ◌≤◌}
 use native.Mathlib.Nat.{mul-le-mul_right, add-mul}

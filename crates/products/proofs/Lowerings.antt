@@ -1,8 +1,8 @@
 -- Laws of level 1 of a product: each coefficient is made of those above it, from the top down.
 --
--- undivided, divided, out_at, Lowering  == the row, the same divided in place, what the loop leaves; the coefficients from k on are there
+-- undivided, divided, out_at, Lowering == the row, the same divided in place, what the loop leaves; the coefficients from k on are there
 -- lowest-some, lowest_few, lowest-room == the lowest degree, and the words from top on
--- lowering_start, -ready, -summed, -writes, -next, -end == how the loop starts, goes on and ends
+-- lowering_start, _ready, _summed, _writes, _next, _end == how the loop starts, goes on and ends
 -- level-one, lowest_leaves, lowest_done == what it leaves becomes the answer
 use Prim.Native.Nat.{ℕ, zero, suc, ◌+◌, ◌-◌, ◌*◌, ◌^◌, ◌<◌, ◌≤◌}
 use native.Mathlib.Nat.{zero-add, mul-one, lt_irrefl}

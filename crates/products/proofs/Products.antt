@@ -2,7 +2,7 @@
 --
 -- product-coefficients, -remainder, -leave == what the three steps ask for;  product_done == what they leave
 -- stands_of_slot                           == a slot of d_(i+1) coefficients is an element of level i + 1
--- product-level, -lower, -places           == the numbers of the code from level 2 on
+-- product-level, -lower, _places           == the numbers of the code from level 2 on
 -- coefficients_asks, remainder_asks, leave_asks, product_leaves == the steps, in the words of the code
 use Prim.Native.Nat.{ℕ, suc, ◌+◌, ◌-◌, ◌*◌, ◌^◌, ◌<◌, ◌≤◌}
 use native.Mathlib.Nat.{mul-le-mul_left, mul-le-mul_right}

@@ -1,14 +1,14 @@
 -- Laws of the loop of a division in place: from the top down each coefficient becomes that of the divided row.
 --
--- Stood                        == the tower, the dividend and the divisor that stood before;  stood_now == those that the contract shows
--- Falling                      == from k on the row `out` stands, which has a coefficient for whatever stood before, and below k the dividend
--- Counted, counted             == the places of a coefficient's pairs, as the code computes them
--- outside_same, tower-now      == an operand outside the row is as it was, and so is the tower
--- now-ready, row_below         == what a product with its answer in the row asks for; a coefficient's words lie below top
--- left_of                      == what the row above it leaves of a coefficient
--- falling_start                == at the top;  falling_inside, -places, -left, -right, -here, -asks == one lower: the places computed; what the product asks for
--- falling_rest, -frame, -step, -end == what it leaves of the coefficient; what has changed; the row's next coefficient stands; the bottom
--- RowFalling, row-start, -next, -end == where the row is that of the division by a monic polynomial
+-- Stood                   == the tower, the dividend and the divisor that stood before;  stood_now == those that the contract shows
+-- Falling                 == from k on the row `out` stands, which has a coefficient for whatever stood before, and below k the dividend
+-- Counted, counted        == the places of a coefficient's pairs, as the code computes them
+-- outside_same, tower-now == an operand outside the row is as it was, and so is the tower
+-- now-ready, row_below    == what a product with its answer in the row asks for; a coefficient's words lie below top
+-- left_of                 == what the row above it leaves of a coefficient
+-- falling_start           == at the top;  falling_inside, _places, _left, _right, _here, _asks == one lower: the places computed; what the product asks for
+-- falling_rest, _frame, _step, _end == what it leaves of the coefficient; what has changed; the row's next coefficient stands; the bottom
+-- RowFalling, row-start, _next, _end == where the row is that of the division by a monic polynomial
 use Prim.Native.Nat.{ℕ, suc, ◌+◌, ◌-◌, ◌*◌, ◌^◌, ◌<◌, ◌≤◌}
 use native.Mathlib.Nat.{mul-le-mul_left, mul-le-mul_right, suc-mul, add-mul, lt_irrefl}
 use native.Mathlib.Omega.{arith}

@@ -1,10 +1,10 @@
 -- Laws of the division in place by a polynomial whose leading coefficient has a known inverse.
 --
--- UnitStood                    == what stood before a division, and the element at the inverse's place;  unit_stood == that which the contract shows
--- UnitFalling                  == from k on the row of this division stands, and below k the dividend
--- scale-low, scale_high        == a coefficient is left, or multiplied
--- unit_start                   == at the top;  unit_scale, unit_next == what the multiplication of the next coefficient asks for, and what it leaves
--- unit_end                     == the bottom
+-- UnitStood             == what stood before a division, and the element at the inverse's place;  unit_stood == that which the contract shows
+-- UnitFalling           == from k on the row of this division stands, and below k the dividend
+-- scale-low, scale_high == a coefficient is left, or multiplied
+-- unit_start            == at the top;  unit_scale, unit_next == what the multiplication of the next coefficient asks for, and what it leaves
+-- unit_end              == the bottom
 use Prim.Native.Nat.{ℕ, suc, ◌+◌, ◌-◌, ◌*◌, ◌<◌, ◌≤◌}
 use native.Mathlib.Nat.{lt_irrefl}
 use native.Mathlib.Omega.{arith}

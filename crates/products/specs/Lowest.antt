@@ -2,11 +2,11 @@
 --
 -- old_number keep v          == the number v where it is kept, and else 0
 -- SingleReady, single_number == a sum of products of residues at one place: what it asks for, and the number that it leaves
--- PairsAtReady, SummedAt    == the pairs of one coefficient of level 1, and that their sum is made
+-- PairsAtReady, SummedAt     == the pairs of one coefficient of level 1, and that their sum is made
 -- DividedReady, divided_number == the residue of that sum and of what the quotient's coefficients above it take away
 -- WriteReady, written_number == the word that is written for it
--- LowestDone                == all coefficients of level 1, divided by the lowest polynomial of the tower
--- LeaveReady, Left          == g elements from top on become the slot at c
+-- LowestDone                 == all coefficients of level 1, divided by the lowest polynomial of the tower
+-- LeaveReady, Left           == g elements from top on become the slot at c
 use Rattle.std.specs.Prelude.{ℕ, suc, ◌+◌, ◌-◌, ◌*◌, ◌%◌, ◌^◌, ◌<◌, ◌≤◌, ◌≡◌, Bool, true, false, List, ℤ, length, set}
 use Rattle.algebra.specs.Vec.{Vec}
 use Rattle.algebra.specs.Windows.{first, span}

@@ -1,13 +1,13 @@
 -- What product and remainder in the store ask for and leave, at any level of any tower.
 --
--- Worked c n top m w w'  == w' is w but for the n words from c on and the m words from top on
--- work d j               == the words above top that a product at level j uses
--- TowerStands, Elements  == the words of a tower, of n elements one behind the other, stand at a place
--- Two                    == n pairs of elements of level i, upwards from a in x and downwards to b in y, each in the store or lent
--- operands o x y         == those that the code's numbers name
--- Inside                 == n words of an operand: within its list, and below top where it is in the store
--- Given, Pairs           == elements that stand in the operands' words and in the answer's place; what the pairs come to
--- Spread                 == the same where the old content's coefficients stand from top on
+-- Worked c n top m w w' == w' is w but for the n words from c on and the m words from top on
+-- work d j              == the words above top that a product at level j uses
+-- TowerStands, Elements == the words of a tower, of n elements one behind the other, stand at a place
+-- Two                   == n pairs of elements of level i, upwards from a in x and downwards to b in y, each in the store or lent
+-- operands o x y        == those that the code's numbers name
+-- Inside                == n words of an operand: within its list, and below top where it is in the store
+-- Given, Pairs          == elements that stand in the operands' words and in the answer's place; what the pairs come to
+-- Spread                == the same where the old content's coefficients stand from top on
 -- ProductReady, CoefficientsReady, RemainderReady and .. Done == the contracts
 use Rattle.std.specs.Prelude.{ℕ, zero, suc, ◌+◌, ◌-◌, ◌*◌, ◌^◌, ◌<◌, ◌≤◌, ◌≡◌, refl, Bool, true, false, ◌⊎◌, List, ℤ, pos, length, get_or, set}
 use Rattle.algebra.specs.Vec.{Vec, coef}

@@ -1,14 +1,14 @@
 -- What sums of products of elements come to, level by level.
 --
--- pair p p_pos d i m u v   == the number that the elements u and v of level i give at the places m (Walk's pair_at, of elements in place of words)
--- value p p_pos d j t h m  == the element of level j whose unreduced coefficients are the numbers h, at the places m above j and every place below:
+-- pair p p_pos d i m u v  == the number that the elements u and v of level i give at the places m (Walk's pair_at, of elements in place of words)
+-- value p p_pos d j t h m == the element of level j whose unreduced coefficients are the numbers h, at the places m above j and every place below:
 --                             each level's row of coefficients is divided by the tower's polynomial
--- value_cong               == numbers that agree wherever the places from j on are those of m have one value
--- value-total              == of a sum it is the sum of the values
--- value-pair, value-pairs  == of a pair of elements it is their product in the ring; of pairs of elements the sum of their products
--- remainder-gained         == old content of fewer coefficients may be added before the division or after it
--- part_stands              == the coefficients of an element stand behind its degree word
--- pair-at, residues_of     == words that hold elements give their numbers, and may be read
+-- value_cong              == numbers that agree wherever the places from j on are those of m have one value
+-- value-total             == of a sum it is the sum of the values
+-- value-pair, value-pairs == of a pair of elements it is their product in the ring; of pairs of elements the sum of their products
+-- remainder-gained        == old content of fewer coefficients may be added before the division or after it
+-- part_stands             == the coefficients of an element stand behind its degree word
+-- pair-at, residues_of    == words that hold elements give their numbers, and may be read
 use Prim.Native.Nat.{ℕ, zero, suc, ◌+◌, ◌-◌, ◌*◌, ◌<◌, ◌≤◌}
 use Rattle.std.proofs.Common.{lt_irrefl, arith, sym, ap, ap₂, ◌∙◌, length-set, get_or-set_same, get_or-set_other}
 use Rattle.std.specs.Prelude.{◌≡◌, Bool, true, false, List, ℤ, length, get_or, set}

@@ -1,13 +1,13 @@
 -- Laws of residues, of the accumulator, and of the rows of the extended Euclid. Those of words are in `Words`. Assumes nothing.
 --
--- minus-none, minus_once              == a number below p is its own residue, and one below 2p after p is taken off once
--- product_fits                        == a product of two residues fits a word
--- room-start, room-less, room_after   == room for 2^32 folds from zero, for fewer, and for the rest after some
--- added_none, added_more, added_then  == no fold adds nothing; a larger count; folds after folds
--- reduced_once, reduced_twice         == the two words modulo p, as one number or with the upper part modulo p first
--- Rows; start, turn, next             == two rows; the first two; what a quotient does; the next two
--- finish_factor, -minus, -plus        == the answer, by the last remainder and the sign of its multiplier
--- inverted_unique                     == an answer is determined
+-- minus-none, minus_once             == a number below p is its own residue, and one below 2p after p is taken off once
+-- product_fits                       == a product of two residues fits a word
+-- room-start, room-less, room_after  == room for 2^32 folds from zero, for fewer, and for the rest after some
+-- added_none, added_more, added_then == no fold adds nothing; a larger count; folds after folds
+-- reduced_once, reduced_twice        == the two words modulo p, as one number or with the upper part modulo p first
+-- Rows; start, turn, next            == two rows; the first two; what a quotient does; the next two
+-- finish_factor, -minus, _plus       == the answer, by the last remainder and the sign of its multiplier
+-- inverted_unique                    == an answer is determined
 use mathlib.Core.Path.{◌≡◌, refl, sym, ap, ◌∙◌}
 use mathlib.Core.Bool.{Bool, true, false, not}
 use mathlib.Core.Logic.{◌↔◌}

@@ -3,7 +3,7 @@
 --
 -- Modulus, Operand, Operands == a modulus; a number, or two, below it
 -- Below p v r                == r is v, and below p
--- sum_of lo hi                == what an accumulator of these two words holds
+-- sum_of lo hi               == what an accumulator of these two words holds
 -- Room, Added                == there is room for n folds more; n folds have added a
 -- Inverted p c r             == r is the inverse of c modulo p, or the greatest common divisor of the two
 use Rattle.std.specs.Prelude.{◌≡◌, ◌↔◌, ℕ, ◌+◌, ◌*◌, ◌%◌, ◌^◌, ◌<◌, ◌≤◌}

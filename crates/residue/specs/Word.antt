@@ -2,7 +2,7 @@
 --
 -- num w, at l i == the number that a word, or the i-th word of a list, holds: 0 for a negative one
 -- Narrow w      == w is a number below 2^32
--- mod_z n p      == the residue of a whole number
+-- mod_z n p     == the residue of a whole number
 use Rattle.std.specs.Prelude.{◌≡◌, List, ℕ, suc, ◌-◌, ◌%◌, ◌^◌, ◌<◌, ℤ, pos, negsuc, get_or}
 
 abbrev pub num : ℤ → ℕ

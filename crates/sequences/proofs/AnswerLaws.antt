@@ -2,8 +2,8 @@
 --
 -- came_done, came_factor, came_long          == of an inverse whose answer stands at c
 -- reached_inverse, reached_divisor, reached_endless == of one whose place is told
--- follows_next, follows_shows, follows_over  == of a turn's end
--- level-low                                  == a factor's level is not above the one where it is shown
+-- follows_next, follows_shows, follows_over == of a turn's end
+-- level-low                                 == a factor's level is not above the one where it is shown
 use Prim.Native.Nat.{ℕ, zero, suc, ◌<◌, ◌≤◌}
 use native.Mathlib.Nat.{lt_irrefl}
 use native.Mathlib.Omega.{arith}

@@ -2,8 +2,8 @@
 --
 -- Leads, leads    == the element's degree and leading coefficient: its first word tells them
 -- begin-reads, begin-ready == what the reading of that word and the filling of the slots ask for
--- begin_counts    == the numbers;  begin_asks == what the inverse one level down asks for
--- begin_frame     == what has changed
+-- begin_counts == the numbers;  begin_asks == what the inverse one level down asks for
+-- begin_frame  == what has changed
 -- begin_going, begin_shows, begin_over == the loop's beginning; a factor of a level below; number 11 is not met
 use Prim.Native.Nat.{ℕ, suc, ◌+◌, ◌-◌, ◌*◌, ◌<◌, ◌≤◌}
 use native.Mathlib.Nat.{mul-le-mul_right, suc-mul}

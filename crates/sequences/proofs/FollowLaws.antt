@@ -1,12 +1,12 @@
 -- Laws of a turn's end: the remainder's leading coefficient times the dividend's inverse is inverted.
 --
--- Before, now                  == what stood before;  Leading, leading, at_stands == the remainder's leading coefficient, at its place;  answer == its inverse's
--- followed                     == what a turn's end leaves, by the remainder's shape
--- searches, follows_zero       == the search for the leading coefficient; the remainder is zero
--- found, some                  == what was found, in the sizes of the tower
--- follows_fit                  == the places that the code computes
--- multiplies, inverts, scales  == what the three steps ask for
--- goes_on, shows, ends         == what they leave
+-- Before, now                 == what stood before;  Leading, leading, at_stands == the remainder's leading coefficient, at its place;  answer == its inverse's
+-- followed                    == what a turn's end leaves, by the remainder's shape
+-- searches, follows_zero      == the search for the leading coefficient; the remainder is zero
+-- found, some                 == what was found, in the sizes of the tower
+-- follows_fit                 == the places that the code computes
+-- multiplies, inverts, scales == what the three steps ask for
+-- goes_on, shows, ends        == what they leave
 use Prim.Native.Nat.{ℕ, suc, ◌+◌, ◌-◌, ◌*◌, ◌<◌, ◌≤◌}
 use native.Mathlib.Nat.{add-mul, lt_irrefl}
 use native.Mathlib.Omega.{arith}

@@ -1,8 +1,8 @@
 -- Laws of the sequence of a GCD, in the counts of the code: each turn leads from one pair to the next, and what the sequence on that leaves is what is sought.
 --
--- Stepped                == the next pair, after a turn
--- turn_asks              == what a turn asks for;  turn_steps, turn_shows, turn_over == what it comes to
--- turns_asks             == what a turn of the loop asks for;  turns_fewer == the next second has fewer coefficients
+-- Stepped    == the next pair, after a turn
+-- turn_asks  == what a turn asks for;  turn_steps, turn_shows, turn_over == what it comes to
+-- turns_asks == what a turn of the loop asks for;  turns_fewer == the next second has fewer coefficients
 -- turns_next, turns-after == the next pair asks for no more, and its end is the end
 -- turns_shows, turns_over == a factor is shown; number 11 is not met
 -- turns-ones, turns-one  == the second is a constant: what writing 1 asks for, and leaves

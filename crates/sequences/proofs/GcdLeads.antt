@@ -1,10 +1,10 @@
 -- Laws of the beginning of a GCD: the leading coefficients are inverted.
 --
--- stripped_of, shape_of     == n coefficients of which the last is not zero, as a shape;  led_of, whole-of == as a polynomial of the sequence
--- led_of_lem, made_of           == such a polynomial stands as one of the sequence; it is made monic by the inverse
--- made_none, made_shown     == zero; a factor shown
--- Held                      == the tower and two polynomials stand;  held_swap == the other way round
--- lead_asks                 == what the inverse of the first's leading coefficient asks for
+-- stripped_of, shape_of == n coefficients of which the last is not zero, as a shape;  led_of, whole-of == as a polynomial of the sequence
+-- led_of_lem, made_of   == such a polynomial stands as one of the sequence; it is made monic by the inverse
+-- made_none, made_shown == zero; a factor shown
+-- Held                  == the tower and two polynomials stand;  held_swap == the other way round
+-- lead_asks             == what the inverse of the first's leading coefficient asks for
 -- lead_sited, lead_up, lead-held, lead-inverse == what it leaves as it was
 -- lead_given, lead_shown, lead_over == the three outcomes
 use Prim.Native.Nat.{ℕ, zero, suc, ◌+◌, ◌-◌, ◌<◌, ◌≤◌}

@@ -1,7 +1,7 @@
 -- Places of a GCD's two polynomials in the store, and what of it may have changed.
 --
--- sited_swap, sited_less  == the other way round; fewer coefficients of the first, in a store as long
--- sited_acting            == what the functions on rows ask for
+-- sited_swap, sited_less == the other way round; fewer coefficients of the first, in a store as long
+-- sited_acting           == what the functions on rows ask for
 -- up_refl, up_trans, up_swap, up-worked, up_besides == nothing, one change after another, either of the two, a row or an inverse, the end of a turn
 -- tower-worked, tower_besides == the tower stands as before
 use Prim.Native.Nat.{ℕ, ◌+◌, ◌*◌, ◌<◌, ◌≤◌}

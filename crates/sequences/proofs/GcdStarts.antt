@@ -1,10 +1,10 @@
 -- Laws of the GCD as a whole: both leading coefficients are inverted, the first one's first, and the sequence on the two comes to the GCD.
 --
--- gcd-first, gcd_second   == what the two inverses ask for
--- gcd_factor, gcd_over    == the first shows a factor; number 11 is not met;  gcd_factor_2, gcd_over_2 == of the second
--- gcd_leads, gcd-after    == where the first is inverted: what the rest asks for, and that what it leaves is the GCD
--- gcd-turns, gcd-sought   == where f is not zero: what the sequence asks for, and that what it leaves is the GCD
--- gcd-monic, gcd_end      == where f is zero: what making g monic asks for, and that it is the GCD
+-- gcd-first, gcd_second == what the two inverses ask for
+-- gcd_factor, gcd_over  == the first shows a factor; number 11 is not met;  gcd_factor_2, gcd_over_2 == of the second
+-- gcd_leads, gcd-after  == where the first is inverted: what the rest asks for, and that what it leaves is the GCD
+-- gcd-turns, gcd-sought == where f is not zero: what the sequence asks for, and that what it leaves is the GCD
+-- gcd-monic, gcd_end    == where f is zero: what making g monic asks for, and that it is the GCD
 use Prim.Native.Nat.{ℕ, suc, ◌+◌, ◌-◌, ◌<◌, ◌≤◌}
 use native.Mathlib.Nat.{lt_irrefl}
 use native.Mathlib.Omega.{arith}

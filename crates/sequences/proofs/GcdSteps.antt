@@ -1,10 +1,10 @@
 -- Laws of the steps of a GCD as the code takes them: a leading coefficient's inverse, a polynomial made monic, one turn.
 --
--- some_of                      == a count that is not 0
--- lead-none                    == there is no leading coefficient
+-- some_of   == a count that is not 0
+-- lead-none == there is no leading coefficient
 -- lead_fits, lead-invert, lead-some == its place; what its inverse asks for, and leaves
--- monic-none, monic-some       == zero; a polynomial that is not zero
--- turn-lower, turn-taken       == the first has fewer coefficients; a remainder is taken
+-- monic-none, monic-some == zero; a polynomial that is not zero
+-- turn-lower, turn-taken == the first has fewer coefficients; a remainder is taken
 use Prim.Native.Nat.{ℕ, ◌+◌, ◌-◌, ◌*◌, ◌<◌, ◌≤◌}
 use native.Mathlib.Nat.{lt_irrefl}
 use native.Mathlib.Omega.{arith}

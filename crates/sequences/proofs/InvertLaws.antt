@@ -1,7 +1,7 @@
 -- Laws of an inverse whose answer is brought to c.
 --
--- CopyReady                           == what a copy asks for
--- copies-inverse, gives_inverse       == the inverse's words are copied
+-- CopyReady                     == what a copy asks for
+-- copies-inverse, gives_inverse == the inverse's words are copied
 -- invert-level, copies_divisor, gives_divisor == those of a factor
 -- invert_endless                      == number 11
 use Prim.Native.Nat.{ℕ, ◌+◌, ◌<◌, ◌≤◌}

@@ -1,8 +1,8 @@
 -- Laws of a row of numbers that loses two multiples at once.
 --
--- row-start, -next, -end       == the loop that makes it;  row_words, -old, -inside == what it reads, and where
--- row-product, -room, -lost    == the code's numbers
--- row_rise, -fall              == the row is made number by number, from the lowest up and from the highest down
+-- row-start, _next, _end    == the loop that makes it;  row_words, _old, _inside == what it reads, and where
+-- row-product, _room, -lost == the code's numbers
+-- row_rise, _fall           == the row is made number by number, from the lowest up and from the highest down
 use Prim.Native.Nat.{ℕ, zero, suc, ◌+◌, ◌-◌, ◌*◌, ◌%◌, ◌^◌, ◌<◌, ◌≤◌}
 use native.Mathlib.Nat.{lt_irrefl, zero-add, mul-le-mul}
 use native.Mathlib.Omega.{arith}

@@ -1,11 +1,11 @@
 -- Laws of the products with two numbers, and of the division whose quotient has two: what `lose_row` makes of words, as elements.
 --
--- line_asks, -done             == a product whose first factor has two numbers, as one of any
+-- line_asks, _done             == a product whose first factor has two numbers, as one of any
 -- line_places                  == where its rows end
--- line-low_asks, -low          == the lowest number loses its pair;  line-left, -row, -middle == those between;  line_high_asks, -end == the highest
--- quotient_asks, -done, -count == a division whose quotient has two numbers, as one of any
--- quotient_places, -start, -end == where its rows end; nothing is divided yet; all is
--- quotient-at, -next, -both    == one number, and the quotient's two;  quotient-left, -row, -middle == those between the lowest and the quotient
+-- line-low_asks, _low          == the lowest number loses its pair;  line-left, _row, _middle == those between;  line_high_asks, _end == the highest
+-- quotient_asks, _done, -count == a division whose quotient has two numbers, as one of any
+-- quotient_places, -start, _end == where its rows end; nothing is divided yet; all is
+-- quotient-at, -next, -both    == one number, and the quotient's two;  quotient-left, -row, _middle == those between the lowest and the quotient
 use Prim.Native.Nat.{ℕ, suc, ◌+◌, ◌-◌, ◌*◌, ◌%◌, ◌<◌, ◌≤◌}
 use native.Mathlib.Nat.{add-zero, zero-add, add_comm, mul_comm}
 use native.Mathlib.Omega.{arith}

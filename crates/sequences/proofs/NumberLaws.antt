@@ -1,8 +1,8 @@
 -- Laws of numbers: level 0 as words.
 --
--- held_of                      == an element of level 0 that stands is a residue;  readable_kept, held_kept == a word that is as before
--- times_numbers, times-number  == what a product of numbers asks for, and that it is a product of elements;  times-single == of one pair
--- lose_dot, lost-word          == what the loss of a sum asks for, and that it is a product in place
+-- held_of                     == an element of level 0 that stands is a residue;  readable_kept, held_kept == a word that is as before
+-- times_numbers, times-number == what a product of numbers asks for, and that it is a product of elements;  times-single == of one pair
+-- lose_dot, lost-word         == what the loss of a sum asks for, and that it is a product in place
 -- dot-room, dot-lost, times_written == the code's numbers
 -- divide-at_lose, -rest, -times, divided-low, divided_high == one number of a division
 use Prim.Native.Nat.{ℕ, ◌+◌, ◌-◌, ◌*◌, ◌%◌, ◌<◌, ◌≤◌}

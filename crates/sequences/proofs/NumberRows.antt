@@ -1,9 +1,9 @@
 -- Laws of rows of numbers: the division's loop at level 0, and the contracts of level 0 over no degrees and over any.
 --
--- met-words                        == the places of a number's pairs;  LosingNumbers, losing_dot, losing_word == one number of a loss is one turn of its loop
--- dividing_asks, dividing_next     == one number of a division is one turn of the division of elements
--- stands_over, elements_over       == elements of level 0 are the same over any degrees
--- numbers_acting                   == level 0 asks for no tower
+-- met-words                    == the places of a number's pairs;  LosingNumbers, losing_dot, losing_word == one number of a loss is one turn of its loop
+-- dividing_asks, dividing_next == one number of a division is one turn of the division of elements
+-- stands_over, elements_over   == elements of level 0 are the same over any degrees
+-- numbers_acting               == level 0 asks for no tower
 -- scale_numbers, lose_numbers, divide_numbers == what rows of level 0 ask for, over no degrees
 -- scale-up, lose_up, divide-up     == what they leave, over any
 use Prim.Native.Nat.{ℕ, zero, suc, ◌+◌, ◌-◌, ◌*◌, ◌<◌, ◌≤◌}

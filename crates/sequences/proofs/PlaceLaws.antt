@@ -4,9 +4,9 @@
 -- clear_swap, clear_in, apart_in == the other way round; parts of two runs
 -- worked_apart, besides_apart  == a run outside a frame is as before;  besides_kept == a turn's end changes only words from low on
 -- besides_refl, besides_trans, besides_left, besides_right == nothing changed; one change after another; only one of two runs changed
--- same_trans                   == one change after another;  stands_same, elements_same == what stands in such a run stands there still
--- work≤inverse                 == an inverse has room for a product
--- laid_start, laid_swap        == the six places of two neighbours in the sequence: at the start, and the other way round
+-- same_trans            == one change after another;  stands_same, elements_same == what stands in such a run stands there still
+-- work≤inverse          == an inverse has room for a product
+-- laid_start, laid_swap == the six places of two neighbours in the sequence: at the start, and the other way round
 use Prim.Native.Nat.{ℕ, zero, suc, ◌+◌, ◌*◌, ◌<◌, ◌≤◌}
 use native.Mathlib.Nat.{mul-le-mul_right}
 use native.Mathlib.Omega.{arith}

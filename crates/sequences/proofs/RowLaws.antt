@@ -1,11 +1,11 @@
 -- Laws of elements in the store, at any level.
 --
--- between_same                 == words outside a row are as before
--- acting_later, tower_later    == the tower stands while a row outside it changes;  acting_size == the size that the code reads
--- acting_product               == what a product of operands in the store asks for
--- times_asks, times_done       == one product
--- Rising                       == k elements of a row are made, from the lowest up
--- rising_start, -whole, -below, -ahead, -step, -end == nothing made; what has changed; the next element's place, and its words; one more; all
+-- between_same              == words outside a row are as before
+-- acting_later, tower_later == the tower stands while a row outside it changes;  acting_size == the size that the code reads
+-- acting_product            == what a product of operands in the store asks for
+-- times_asks, times_done    == one product
+-- Rising                    == k elements of a row are made, from the lowest up
+-- rising_start, _whole, _below, _ahead, _step, _end == nothing made; what has changed; the next element's place, and its words; one more; all
 use Prim.Native.Nat.{ℕ, ◌+◌, ◌*◌, ◌^◌, ◌<◌, ◌≤◌}
 use native.Mathlib.Nat.{mul-le-mul_right, lt_irrefl}
 use native.Mathlib.Omega.{arith}

@@ -1,9 +1,9 @@
 -- Laws of the loops over rows of elements in the store, at any level.
 --
--- Scaling; scaling-start, -place, -asks, -next, -end == each of n elements is multiplied
--- Losing; losing_count, -start, -places, -left, -right, -here, -asks, -next, -end == a row loses the product of two rows
--- Met, met                     == the places of an element's pairs, as the code computes them
--- divide_asks, divide_done     == a row is divided
+-- Scaling; scaling-start, -place, _asks, -next, _end == each of n elements is multiplied
+-- Losing; losing_count, _start, _places, _left, _right, _here, _asks, _next, _end == a row loses the product of two rows
+-- Met, met                 == the places of an element's pairs, as the code computes them
+-- divide_asks, divide_done == a row is divided
 use Prim.Native.Nat.{ℕ, ◌+◌, ◌-◌, ◌*◌, ◌<◌, ◌≤◌}
 use native.Mathlib.Nat.{mul-le-mul_left, add-mul}
 use native.Mathlib.Omega.{arith}

@@ -1,7 +1,7 @@
 -- Laws of the start of an inverse: five slots above top.
 --
 -- Slots, begin_slots                 == nothing wraps
--- begin-modulus, -element, -none, -zeros, -one, -unit == what each step asks for, in a store as long as the first
+-- begin-modulus, -element, -none, -zeros, -one, _unit == what each step asks for, in a store as long as the first
 -- begun                              == what stands then
 use Prim.Native.Nat.{ℕ, zero, suc, ◌+◌, ◌*◌, ◌<◌, ◌≤◌}
 use native.Mathlib.Nat.{mul-le-mul_left, suc-mul}

@@ -1,15 +1,15 @@
 -- What the GCD in the store asks for and leaves.
 --
--- Placed               == a polynomial in the store: its coefficients, and a place for the inverse of its leading one
--- Sited                == two such polynomials, apart, with a modulus, sizes, and room above top for an inverse
--- Upwards              == only words from the lowest of their places up to the end of that room have changed
--- Finds                == what the answer comes to
--- GcdReady, GcdDone    == the GCD of two polynomials
+-- Placed            == a polynomial in the store: its coefficients, and a place for the inverse of its leading one
+-- Sited             == two such polynomials, apart, with a modulus, sizes, and room above top for an inverse
+-- Upwards           == only words from the lowest of their places up to the end of that room have changed
+-- Finds             == what the answer comes to
+-- GcdReady, GcdDone == the GCD of two polynomials
 -- Inverted, GcdLedReady, GcdLedDone == the same where the inverse of the first one's leading coefficient stands
 -- LeadReady, LeadDone  == the inverse of a leading coefficient, where there is one
 -- MonicReady, MonicDone, TurnReady, TurnDone == a polynomial made monic, where it is not zero; one remainder
--- LedStands            == a polynomial of the sequence stands, with the inverse of its leading coefficient
--- Sought               == what the sequence on two polynomials, the second of which may be zero, comes to
+-- LedStands == a polynomial of the sequence stands, with the inverse of its leading coefficient
+-- Sought    == what the sequence on two polynomials, the second of which may be zero, comes to
 -- TurnsReady, TurnsDone == the sequence
 use Rattle.std.specs.Prelude.{ℕ, suc, ◌+◌, ◌-◌, ◌*◌, ◌^◌, ◌<◌, ◌≤◌, ◌≡◌, Bool, true, ◌⊎◌, List, ℤ, length}
 use Rattle.algebra.specs.UnitDivide.{scaleᵛ}

@@ -5,8 +5,8 @@
 -- TimesNumbersReady, times_number == a product of two numbers
 -- LoseDotReady, lost_number   == a number loses products of pairs of numbers
 -- LoseRowReady, lost_pair, LoseRowDone == each of n numbers loses two multiples
--- DivideAtReady, DividedAt   == the k-th number of a row that is divided in place: what is left of it, and from g on that times the inverse
--- Numbers..                  == the contracts of rows of level 0
+-- DivideAtReady, DividedAt == the k-th number of a row that is divided in place: what is left of it, and from g on that times the inverse
+-- Numbers..                == the contracts of rows of level 0
 use Rattle.std.specs.Prelude.{ℕ, ◌+◌, ◌-◌, ◌*◌, ◌%◌, ◌^◌, ◌<◌, ◌≤◌, ◌≡◌, true, List, [], ◌∷◌, ℤ, pos, length, get_or, set}
 use Rattle.algebra.specs.Windows.{first, span}
 use Rattle.residue.specs.Number.{Modulus}

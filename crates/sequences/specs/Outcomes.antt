@@ -1,12 +1,12 @@
 -- What the inverse in the store asks for and leaves.
 --
--- Came                      == what an outcome and the words at c say of the sequence's answer
--- InvertReady, InvertDone   == the inverse of an element, its answer at c
--- Reached                   == the same where the place of the answer is told
--- RunReady, RunDone         == the inverse at a level above 0, its answer in the words above top
--- Away, Besides             == a place outside a run of words; what a turn's end may change
--- Followed                  == what the end of a turn comes to
--- FollowReady, FollowDone   == the end of a turn: the remainder's leading coefficient is inverted
+-- Came                    == what an outcome and the words at c say of the sequence's answer
+-- InvertReady, InvertDone == the inverse of an element, its answer at c
+-- Reached                 == the same where the place of the answer is told
+-- RunReady, RunDone       == the inverse at a level above 0, its answer in the words above top
+-- Away, Besides           == a place outside a run of words; what a turn's end may change
+-- Followed                == what the end of a turn comes to
+-- FollowReady, FollowDone == the end of a turn: the remainder's leading coefficient is inverted
 use Rattle.std.specs.Prelude.{ℕ, suc, ◌+◌, ◌*◌, ◌^◌, ◌<◌, ◌≤◌, ◌≡◌, Bool, ◌⊎◌, List, ℤ, pos, length, get_or}
 use Rattle.algebra.specs.Shape.{Shape, null, lead, strip}
 use Rattle.algebra.specs.Vec.{trunc}

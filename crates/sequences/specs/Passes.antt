@@ -1,13 +1,13 @@
 -- What the sequence of an inverse at level h + 1 asks for and leaves, from two neighbours f and k on.
 --
 -- under_of, next_of == where the words of the tower of level h begin; where the words above the five slots begin
--- level_of         == the level below, over which the sequence is taken
--- Clear, Laid     == two runs of words have no place in common; the six places of two neighbours, apart
--- Turning         == two neighbours of the sequence, and that the inverse of v is what the sequence on them comes to
--- Stood           == a polynomial of the sequence stands at its three places
--- Going, Zero     == f and k follow each other, with counts fn and kn; or the remainder was zero, and f is the factor
--- Looping         == what holds wherever a remainder may be taken
--- Figures         == the numbers of a run that are handed on;  Underway, PassesDone == the sequence from there on
+-- level_of          == the level below, over which the sequence is taken
+-- Clear, Laid       == two runs of words have no place in common; the six places of two neighbours, apart
+-- Turning           == two neighbours of the sequence, and that the inverse of v is what the sequence on them comes to
+-- Stood             == a polynomial of the sequence stands at its three places
+-- Going, Zero       == f and k follow each other, with counts fn and kn; or the remainder was zero, and f is the factor
+-- Looping           == what holds wherever a remainder may be taken
+-- Figures           == the numbers of a run that are handed on;  Underway, PassesDone == the sequence from there on
 -- RemainderReady, RemainderDone == one remainder, and what it carries
 -- Settling, Settled, CloseReady, CloseDone == a row scaled and made an element; the end of the sequence
 use Rattle.std.specs.Prelude.{ℕ, suc, ◌+◌, ◌-◌, ◌*◌, ◌<◌, ◌≤◌, ◌≡◌, Bool, ◌⊎◌, List, ℤ, length}

@@ -1,11 +1,11 @@
 -- What the functions on elements and rows of elements in the store ask for and leave. All operands stand in the store below top; the tower may be lent.
 --
--- Acting            == a modulus, sizes, the tower of level i, and room above top for a product
--- Between           == two runs of words have no place in common
--- Times..           == the element at c becomes a product
--- Scale..           == each of n elements is multiplied
--- Lose..            == a row loses the product of two rows
--- Divide..          == a row is divided in place by one whose leading coefficient has a known inverse
+-- Acting   == a modulus, sizes, the tower of level i, and room above top for a product
+-- Between  == two runs of words have no place in common
+-- Times..  == the element at c becomes a product
+-- Scale..  == each of n elements is multiplied
+-- Lose..   == a row loses the product of two rows
+-- Divide.. == a row is divided in place by one whose leading coefficient has a known inverse
 use Rattle.std.specs.Prelude.{ℕ, ◌+◌, ◌-◌, ◌*◌, ◌^◌, ◌<◌, ◌≤◌, Bool, ◌⊎◌, List, ℤ, length}
 use Rattle.algebra.specs.Vec.{Vec, coef}
 use Rattle.algebra.specs.UnitDivided.{rowᵘ}

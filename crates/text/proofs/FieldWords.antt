@@ -1,9 +1,9 @@
 -- Laws of the numbers of fields, as they are read from a line into a store, one field a turn.
 --
--- fields_from                       == the fields from a place on, none behind the line's end
--- Gathered                         == the first words of a store are the numbers of the fields passed
--- none_gathered, one_gathered      == how reading goes on
--- no_number, too_many, all_read    == how it ends
+-- fields_from                   == the fields from a place on, none behind the line's end
+-- Gathered                      == the first words of a store are the numbers of the fields passed
+-- none_gathered, one_gathered   == how reading goes on
+-- no_number, too_many, all_read == how it ends
 use mathlib.Core.Path.{◌≡◌, refl, sym, ap, ◌∙◌}
 use mathlib.Core.Bool.{Bool, true, false, cond}
 use mathlib.Core.List.{List, [], ◌∷◌}

@@ -2,8 +2,8 @@
 --
 -- none_given, too_many             == texts of no digit, and of more than there may be
 -- Read; none_read, one_more, all_read, too_low, too_high == what is known of the digits passed, from the first to the last
--- plain-.., negated-..             == what a value is as a number, without and with a minus
--- no_text, with_sign               == a text by its first byte; without a sign, see specs/Written.antt
+-- plain-.., negated-.. == what a value is as a number, without and with a minus
+-- no_text, with_sign   == a text by its first byte; without a sign, see specs/Written.antt
 use mathlib.Core.Path.{◌≡◌, refl, sym, ap, ◌∙◌}
 use mathlib.Core.Bool.{Bool, true, false, ◌&&◌}
 use mathlib.Core.List.{List, [], ◌∷◌}

@@ -2,11 +2,11 @@
 --
 -- same_refl, same_true, same_false   == same_text tells whether two texts are equal
 -- same_shorter, same_differs, same_equal == as it is met: two lengths, two bytes, one text
--- part, part_end                     == a part of a text; up to its end
--- Passed                             == there is no tab from a place up to another
--- none_passed, one-passed            == how a search for a tab goes on
--- at-tab, at_end                     == where the field ends that begins at a place
--- one_field, two_fields              == a text is its fields with tabs between them
+-- part, part_end          == a part of a text; up to its end
+-- Passed                  == there is no tab from a place up to another
+-- none_passed, one-passed == how a search for a tab goes on
+-- at-tab, at_end          == where the field ends that begins at a place
+-- one_field, two_fields   == a text is its fields with tabs between them
 use mathlib.Core.Path.{◌≡◌, refl, sym, ap, ◌∙◌}
 use mathlib.Core.Bool.{Bool, true, false, cond, ◌&&◌}
 use mathlib.Core.List.{List, [], ◌∷◌, ◌++◌, append_assoc, append-nil}

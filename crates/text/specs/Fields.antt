@@ -1,9 +1,9 @@
 -- The fields of a line and the numbers that they are.
 --
--- before, fields_of          == the fields, parted at every tab
--- words_from, words_of        == the numbers of fields: "carries at most 512 words"
--- fields_at                  == the fields from a place on
--- Ends, WordsRead           == what the program's functions give
+-- before, fields_of    == the fields, parted at every tab
+-- words_from, words_of == the numbers of fields: "carries at most 512 words"
+-- fields_at            == the fields from a place on
+-- Ends, WordsRead      == what the program's functions give
 use Rattle.std.specs.Prelude.{ℕ, suc, ◌-◌, ◌<◌, ◌≤◌, cond, List, [], ◌∷◌, ◌++◌, ◌≡◌, ltb, eqb, ℤ, length, take, drop}
 use Rattle.text.specs.declared.Number.{Number}
 use Rattle.text.specs.declared.Number.TheVariants.{Is, Not}

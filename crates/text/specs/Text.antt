@@ -1,11 +1,11 @@
 -- Numbers as text, both ways. Text is a list of bytes.
 --
--- is_digit, digits_of             == the digits 0 to 9; the value of digits behind digits of a value
--- magnitude_of, number_of         == what text of at most so many digits is as a number
--- ends                          == both ends of the range of numbers, and the first numbers beyond them
--- decimal, word_text             == the digits of a number, no more than it needs; a word, behind a minus where it is negative
--- tab                           == the byte that parts fields
--- same_text                      == two texts are the same
+-- is_digit, digits_of     == the digits 0 to 9; the value of digits behind digits of a value
+-- magnitude_of, number_of == what text of at most so many digits is as a number
+-- ends                    == both ends of the range of numbers, and the first numbers beyond them
+-- decimal, word_text      == the digits of a number, no more than it needs; a word, behind a minus where it is negative
+-- tab                     == the byte that parts fields
+-- same_text               == two texts are the same
 use Rattle.std.specs.Prelude.{ℕ, zero, suc, ◌+◌, ◌-◌, ◌*◌, ◌/◌, ◌%◌, ◌^◌, Bool, true, false, cond, ◌&&◌, List, [], ◌∷◌, ◌++◌, ◌≡◌, refl, leb, ltb, eqb, ℤ, pos, negsuc, length}
 use Rattle.text.specs.declared.Digits.{Digits}
 use Rattle.text.specs.declared.Digits.TheVariants.{Value, Wrong}

@@ -1,11 +1,11 @@
 -- What is printed, read again: a word is the number that was written, and no tab stands in it; words behind tabs are the fields of a line.
 --
--- digit_alone, digit_behind   == the digits of a number, by its size
--- few_digits, twenty_digits   == a number below 10^k takes at most k digits, and no text has more than 20
--- word_bytes, no_tab          == a printed word is made of digits and a minus, so there is no tab in it
--- all_of, without_sign        == a text of digits as a number
--- Short, short_text           == a number of at most 10 digits, whose text has at most 11 bytes;  read_again == what is read is the number written
--- parted, one_field           == a tab parts the fields; without one there is one field
+-- digit_alone, digit_behind == the digits of a number, by its size
+-- few_digits, twenty_digits == a number below 10^k takes at most k digits, and no text has more than 20
+-- word_bytes, no_tab        == a printed word is made of digits and a minus, so there is no tab in it
+-- all_of, without_sign      == a text of digits as a number
+-- Short, short_text         == a number of at most 10 digits, whose text has at most 11 bytes;  read_again == what is read is the number written
+-- parted, one_field         == a tab parts the fields; without one there is one field
 -- digits_nil, fields_nil, words_nil, words-cons == the first steps of the definitions
 -- AllShort, words_again       == the numbers of the texts of words are the words
 use Rattle.std.specs.Prelude.{◌≡◌, refl, Bool, true, false, cond, ◌⊎◌, ℕ, zero, suc, ◌+◌, ◌-◌, ◌*◌, ◌/◌, ◌%◌, ◌^◌, ◌<◌, ◌≤◌, eqb, ℤ, pos, negsuc, nat_abs, length, get_or}

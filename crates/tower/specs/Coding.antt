@@ -1,8 +1,8 @@
 -- A type kept in words: its writing, its reading and the test that passes exactly the writings. One step up is shown once: it serves the elements of
 -- every level and the slots alike.
 --
--- Coding  == writing, reading, and that they and the test agree
--- up      == vectors of n elements, behind a degree word
+-- Coding == writing, reading, and that they and the test agree
+-- up     == vectors of n elements, behind a degree word
 use Prim.Native.Nat.{ℕ, zero, suc, ◌+◌, ◌*◌, ◌<◌, ◌≤◌}
 use Rattle.std.specs.Prelude.{◌≡◌, Bool, not, ℤ, pos, negsuc, eqb, length, drop, ◌⊎◌}
 use Rattle.std.proofs.Math.Path.{refl, sym, ap₂}

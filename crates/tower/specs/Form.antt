@@ -2,10 +2,10 @@
 -- degrees only. That they pass exactly the writings is shown in Unique and TowerUnique.
 --
 -- seg a n w                == n words of w from a on
--- is_in_form p d i w           == w is an element of level i: "0 to p-1"; "The coefficient at the degree is not zero; all above it are the zero of their own level."
--- slot_form p d i k w       == w is a slot of k coefficients of level i
--- modulus_form, tower_form   == w is one tower polynomial; the words of a tower of n levels
--- zero_words, one_words      == the words of 0 and of 1
+-- is_in_form p d i w       == w is an element of level i: "0 to p-1"; "The coefficient at the degree is not zero; all above it are the zero of their own level."
+-- slot_form p d i k w      == w is a slot of k coefficients of level i
+-- modulus_form, tower_form == w is one tower polynomial; the words of a tower of n levels
+-- zero_words, one_words    == the words of 0 and of 1
 use Rattle.std.specs.Prelude.{ℕ, zero, suc, ◌+◌, ◌-◌, ◌*◌, ◌≡◌, refl, Bool, true, false, not, ◌&&◌, List, [], ◌∷◌, ◌++◌, ℤ, pos, negsuc, eqb, length, get_or, take, drop}
 use Rattle.std.specs.Int.Signed.{lt_z, le_z, non_neg}
 use Rattle.algebra.specs.Test.{all_to}

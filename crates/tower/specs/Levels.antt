@@ -3,11 +3,11 @@
 -- A tower is indexed by the modulus p and the list d of its degrees, d_1 first. The elements of a level, their sum and the test for equality depend on
 -- p and d alone; the tower's polynomials enter with the product. Nothing here asks for a degree of at least 2, or for at most four levels.
 --
--- degree d n           == d_(n+1), the degree of the polynomial that makes level n + 1 over level n
--- El p d n             == the elements of level n;  is_zero p d n == the test for zero
--- group p pos d n      == their sum;  zero_test == that is_zero tells its zero
--- Tower p d n          == n polynomials: a tower of n + 1 levels is one of n levels and the coefficients, under its leading 1, of a monic polynomial over it
--- ring p pos d n t     == R_n;  one_not_zero == for p ≥ 2 and degrees of at least 1 its 1 is not 0
+-- degree d n       == d_(n+1), the degree of the polynomial that makes level n + 1 over level n
+-- El p d n         == the elements of level n;  is_zero p d n == the test for zero
+-- group p pos d n  == their sum;  zero_test == that is_zero tells its zero
+-- Tower p d n      == n polynomials: a tower of n + 1 levels is one of n levels and the coefficients, under its leading 1, of a monic polynomial over it
+-- ring p pos d n t == R_n;  one_not_zero == for p ≥ 2 and degrees of at least 1 its 1 is not 0
 use Rattle.std.specs.Prelude.{ℕ, zero, suc, ◌%◌, ◌<◌, ◌≤◌, ◌≡◌, Bool, List, T, eqb, get_or}
 use Rattle.std.proofs.Common.{sym, ap, ◌∙◌, lt_irrefl, not-suc-le-zero, mod-eq_of_lt, arith, eqb→eq}
 use Rattle.algebra.specs.Test.{ZeroTest}

@@ -3,9 +3,9 @@
 --
 -- p_ok                       == number 1;  p_two, p_positive, p_narrow == what it says of p
 -- levels_ok, degrees_ok, size_ok == number 2;  size_few, few_size == what size_ok says;  degrees_of == the four degrees as numbers
--- slot_length, slot_count     == number 4 for a slot, and its coefficients
--- work_degree                == number 5 for the work sizes
--- Between l m w             == the word w is a number from l to m;  DegreeIn n k g == the degree of level k + 1 of n levels is in range
+-- slot_length, slot_count == number 4 for a slot, and its coefficients
+-- work_degree             == number 5 for the work sizes
+-- Between l m w           == the word w is a number from l to m;  DegreeIn n k g == the degree of level k + 1 of n levels is in range
 -- modulus_range, levels_range, degrees_range, work-degree_range == what the tests say
 use Rattle.std.specs.Prelude.{ℕ, ◌-◌, ◌/◌, ◌%◌, ◌^◌, ◌<◌, ◌≤◌, ◌≡◌, refl, Bool, true, false, not, ◌&&◌, List, [], ◌∷◌, ◌⊎◌, ◌↔◌, ℤ, pos, negsuc, T, ltb, leb, eqb, get_or}
 use Rattle.std.proofs.Common.{lt_irrefl, arith, sym, ap, subst, inl, inr, leb→le, le→leb, ltb→lt, nltb→le}

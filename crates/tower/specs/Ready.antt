@@ -1,7 +1,7 @@
 -- What the functions on words ask of their arguments.
 --
--- Sized, Small, Degrees  == z holds the sizes of the degrees d; degrees of at most 64; n levels of degrees from 1 to 64
--- Positive               == each of the i lowest degrees is at least 1
+-- Sized, Small, Degrees == z holds the sizes of the degrees d; degrees of at most 64; n levels of degrees from 1 to 64
+-- Positive              == each of the i lowest degrees is at least 1
 -- Element, Run, Row, Whole == an element, n elements one after the other, n elements behind a degree word, the words of a tower: where they stand
 use Rattle.std.specs.Prelude.{ℕ, ◌+◌, ◌*◌, ◌<◌, ◌≤◌, ◌≡◌, List, ℤ, length, get_or}
 use Rattle.tower.specs.Writing.{size, tower_size}

@@ -1,11 +1,11 @@
 -- Elements and slots that stand in a list of words, at any level: what their first word tells.
 --
--- Stands p d i x w a         == the words of x, of level i, stand at a in w
--- SlotStands p d i k v w a   == those of a slot of k coefficients of level i
--- zero_told, zero_iff        == the first word is that of a zero precisely when x is zero
--- count_told, degree_told    == the degree word counts the coefficients up to the highest that is not zero;  count_few == at most k
--- slot_of                    == an element of level i + 1 is a slot of d_(i+1) coefficients of level i;  slot_stands == words in form hold a slot
--- zero_long, one_long        == the zero and the one of level i have S_i words;  zero_stands, one_stands == written, they stand there
+-- Stands p d i x w a       == the words of x, of level i, stand at a in w
+-- SlotStands p d i k v w a == those of a slot of k coefficients of level i
+-- zero_told, zero_iff      == the first word is that of a zero precisely when x is zero
+-- count_told, degree_told  == the degree word counts the coefficients up to the highest that is not zero;  count_few == at most k
+-- slot_of                  == an element of level i + 1 is a slot of d_(i+1) coefficients of level i;  slot_stands == words in form hold a slot
+-- zero_long, one_long      == the zero and the one of level i have S_i words;  zero_stands, one_stands == written, they stand there
 use Rattle.std.specs.Prelude.{ℕ, zero, suc, ◌+◌, ◌-◌, ◌*◌, ◌<◌, ◌≤◌, ◌≡◌, refl, ◌↔◌, List, ℤ, pos, T, length, get_or}
 use Rattle.std.proofs.Common.{sym, ap, ◌∙◌, subst, add-zero, suc-mul, arith, length-append, take_all}
 use Rattle.algebra.specs.Vec.{Vec}

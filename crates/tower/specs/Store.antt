@@ -1,8 +1,8 @@
 -- The store: one list of words in which the core works by places. What a function may have changed in it, and what it wrote.
 --
--- Kept a n w w'   == w' is w but for the n words from a on
--- Put a l w w'    == w' is w with the words l from a on;  put_unique == so w' is settled
--- Apart a b n     == n words from a on and n words from b on have no place in common
+-- Kept a n w w' == w' is w but for the n words from a on
+-- Put a l w w'  == w' is w with the words l from a on;  put_unique == so w' is settled
+-- Apart a b n   == n words from a on and n words from b on have no place in common
 --
 -- Laws of frames: kept_refl, kept_trans, kept-wide (a frame of a part), kept_join (two neighbours), kept-seg (a part outside), kept_set (one word).
 -- Laws of what is written: put_nil, put-set, put-append, put-kept, put-seg; seg-kept == a part is told by its words.

@@ -1,8 +1,8 @@
 -- The words of a tower: they pass the test precisely when they are the writing of exactly one tower. It needs p ≥ 2 and degrees of at least 1 (`Ones`), so that
 -- 1 and 0 differ at every level.
 --
--- write-one     == the words of 1
--- tower_iff     == the test passes exactly the writings;  tower_of-words, words-tower_of == read back, written back
+-- write-one == the words of 1
+-- tower_iff == the test passes exactly the writings;  tower_of-words, words-tower_of == read back, written back
 use Rattle.std.specs.Prelude.{◌≡◌, Bool, ◌↔◌, ℤ, eqb, length, drop}
 use Rattle.std.proofs.Math.Path.{refl, sym, ap, ap₂, subst}
 use Rattle.std.proofs.Common.{◌∙◌, lt_irrefl, not-suc-le-zero, mod-eq_of_lt, sub-one, arith, length-drop}

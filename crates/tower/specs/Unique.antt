@@ -1,8 +1,8 @@
 -- Words in form are the writing of exactly one element, and each element has one writing: at every level, and for slots. This is demand 2's last sentence:
 -- "Each polynomial that fits has one writing in a slot of given size, and each writing that passes the check is one polynomial."
 --
--- Exactly f w   == w is f of exactly one thing
--- coding        == writing, reading and form of level n agree;  slot_coding == of slots of k coefficients
+-- Exactly f w == w is f of exactly one thing
+-- coding      == writing, reading and form of level n agree;  slot_coding == of slots of k coefficients
 -- form_iff, slot_iff == words pass the test precisely when they are the writing of exactly one element, one polynomial
 -- writing, one_writing == a polynomial below k is what exactly one list of words in form holds
 use Rattle.std.specs.Prelude.{◌≡◌, refl, Bool, ◌&&◌, ◌↔◌, List, [], ◌∷◌, ℤ, negsuc, T, eqb, length, get_or}

@@ -1,7 +1,7 @@
 -- Work words: document 01's recurrences, and that the product's fit into the inverse's.
 --
 -- room d i c      == P(c - 1, i): the words of c coefficients of level i and a degree word
--- product_work     == M;  inverse_work == I;  gcd_work == the GCD's number, from one more than the two degrees
+-- product_work    == M;  inverse_work == I;  gcd_work == the GCD's number, from one more than the two degrees
 -- product≤inverse == M(n) ≤ I(n), for any degrees;  inverse_work_grows == what a level needs, those above it have
 use Rattle.std.specs.Prelude.{◌≡◌, refl, List, ℕ, zero, suc, ◌+◌, ◌-◌, ◌*◌, ◌≤◌}
 use Rattle.std.proofs.Common.{mul-le-mul_right, arith}

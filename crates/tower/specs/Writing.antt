@@ -5,9 +5,9 @@
 -- its own degree word and two elements of level 1, each a degree word and three residues. A degree word is -1 for zero. The zero of level 1 for d_1 = 3
 -- is -1 0 0 0.
 --
--- size d n          == S_n, the words of an element of level n;  degree_count == one more than the degree of what a slot holds, by its degree word
--- write, read       == the words of an element, and back;  slot, unslot == those of k coefficients and their degree, and back
--- tower_words        == those of a tower's polynomials, the topmost first;  tower_of == and back
+-- size d n    == S_n, the words of an element of level n;  degree_count == one more than the degree of what a slot holds, by its degree word
+-- write, read == the words of an element, and back;  slot, unslot == those of k coefficients and their degree, and back
+-- tower_words == those of a tower's polynomials, the topmost first;  tower_of == and back
 use Prim.Native.Nat.{ℕ, zero, suc, ◌+◌, ◌*◌, ◌<◌}
 use Rattle.std.specs.Prelude.{◌≡◌, List, [], ◌∷◌, ◌++◌, ℤ, pos, negsuc, length, get_or, take, drop, Bool}
 use Rattle.std.proofs.Math.Path.{refl}
