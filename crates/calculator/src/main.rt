@@ -12,11 +12,9 @@ use lines::keeping::{TOWER_WORDS, nothing};
 use lines::lengths::{ANSWER_WORDS, WORK_WORDS};
 use lines::reading::MOST_BYTES;
 use lines::steps::step;
-use std::io::{Read, Stdin};
+use std::io::Stdin;
 use text::fields::MOST_WORDS;
-
-// The number of standard output.
-const STANDARD_OUTPUT: i32 = 1;
+use text::streams::{STANDARD_OUTPUT, read_piece};
 
 // One byte more than a line may have, so that a longer one is seen.
 const LINE_BYTES: usize = MOST_BYTES + 1;
@@ -158,16 +156,6 @@ fn feed(
         return end_line(text, words, tower, a, b, g, r, f, v, out, s);
     }
     gather(text, s, byte)
-}
-
-// The next bytes of the input: how many there are, or 0 where it has ended or cannot be read.
-fn read_piece(mut input: Stdin, piece: &mut [u8]) -> usize
-    ensures { result ≤ length piece.new }
-{
-    match input.read(piece) {
-        Ok(n) => n,
-        Err(_) => 0,
-    }
 }
 
 // One piece of the input.

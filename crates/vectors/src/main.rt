@@ -14,13 +14,13 @@ mod output;
 mod remainders;
 mod slot_calls;
 
-ghost use Rattle.std.specs.Prelude.{◌≤◌, length};
 ghost use Rattle.vectors.specs.Sound.{Sound};
 
 use crate::field::Call;
 use crate::output::{OUTPUT_BYTES, Output};
-use std::io::{Read, Stdin};
+use std::io::Stdin;
 use text::Number;
+use text::streams::read_piece;
 
 // The most numbers of a line. A line that has more asks for no call.
 const MOST_NUMBERS: usize = 131072;
@@ -138,16 +138,6 @@ fn feed(store: &mut Store, field: &mut Field, out: &mut Output, s: Reading, b: u
     let mut t = s;
     t.bytes = bytes + 1;
     t
-}
-
-// The next bytes of the input: how many there are, or 0 where it has ended or cannot be read.
-fn read_piece(mut input: Stdin, piece: &mut [u8]) -> usize
-    ensures { result ≤ length piece.new }
-{
-    match input.read(piece) {
-        Ok(n) => n,
-        Err(_) => 0,
-    }
 }
 
 // One piece of the input.

@@ -7,9 +7,7 @@ ghost use Rattle.std.specs.Prelude.{◌≤◌};
 
 use residue::magnitude;
 use text::bytes::append;
-
-// The number of standard output.
-const STANDARD_OUTPUT: i32 = 1;
+use text::streams::STANDARD_OUTPUT;
 
 // How many bytes the store has.
 pub const OUTPUT_BYTES: usize = 65536;
