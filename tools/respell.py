@@ -118,7 +118,7 @@ def turned(text, to):
 
 def main(argv):
     root = "."
-    if any(path.endswith("/Answers.antt") for path in files(root)):
+    if any("/proofs/" in path and path.endswith("/Answers.antt") for path in files(root)):
         print("the names are spelt already: nothing was written")
         return 1
     to = spellings(root)
