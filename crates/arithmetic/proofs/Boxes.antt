@@ -3,7 +3,8 @@
 -- box_inside                       == the first word of a box is inside
 -- Turns                            == k of n turns of a loop over the outermost way are added
 -- box_place, box_turn, box_end     == where a turn starts is inside; what it asks for; all of them are the box
--- dot-turn, dot_end                == what one way asks for is what `dot` does, and so is its sum
+-- pair_ready, pair_sum             == a box of one pair
+-- dot-none, dot-ready, dot_end     == a box of one way: no pairs; what it asks for; what its sum is
 -- two-words, two_ways, two-sum     == a box of two ways in plain words
 -- Alike                            == two boxes over the same pairs
 -- alike_swap, _inside, _then, _one == neighbours exchanged; below a way; one after the other; a way of one pair
@@ -14,7 +15,7 @@
 -- run_box                         == n pairs of elements are a box
 -- levels, offsets, laid_levels    == the windows of the levels up to k + 1, and that an element of a level up to there is laid out so
 -- pairs-ready, pairs-sum          == what their box asks for, and what its sum is
--- pairs-place, pairs_small        == where it starts is inside; an element is small
+-- pairs-place                     == where it starts is inside
 -- size_grows                      == an element of a higher level has more words
 -- window-place, -start, window-is == the place and the start of a window do not wrap, and the code's window is the level's
 use mathlib.Core.Path.{◌≡◌, refl, sym, ap, ap₂, subst, ◌∙◌, fun_ext}
@@ -29,7 +30,7 @@ use Rattle.algebra.specs.Test.{le_or_lt}
 use Rattle.algebra.specs.Windows.{first, span}
 use Rattle.residue.specs.Number.{Added}
 use Rattle.residue.specs.Word.{at}
-use Rattle.residue.proofs.Laws.{room-start, room-less, added_more}
+use Rattle.residue.proofs.Laws.{room-start, room-less, added_none, added_more}
 use Rattle.tower.specs.Levels.{degree}
 use Rattle.tower.specs.Writing.{size, size-zero, size_suc, size-pos}
 use Rattle.arithmetic.specs.declared.walk.Way.{Way}
@@ -79,21 +80,35 @@ module _ {x : List ℤ} {a : ℕ} {y : List ℤ} {b : ℕ} {v : Way} {L : List W
   pub box_end : {k l t : ℕ} → Turns x y a b v.count v.step L lo hi k l t → v.count ≤ k → Added (volume (v ∷ L)) (box_at x y (v ∷ L) a b) lo hi l t
   box_end f h = rw (volume-way v L, box_at-way x y v L a b) (folded_end f h)
 
+-- ---- one pair
+pub pair_ready : {x : List ℤ} {a : ℕ} {y : List ℤ} {b lo hi : ℕ} → BoxReady x a y b [] lo hi → Readable x a × Readable y b
+pair_ready {x} {a} {y} {b} p = ((box_of_none x a).0 p.left, (box_of_none y b).0 p.right)
+
+pub pair_sum : (x : List ℤ) (a : ℕ) (y : List ℤ) (b : ℕ) {u lo hi l t : ℕ} → u ≡ at x a * at y b → Added 1 u lo hi l t
+    → Added (volume []) (box_at x y [] a b) lo hi l t
+pair_sum x a y b e r = rw (volume-none, box_at-none x y a b) (rw e at r)
+
 -- ---- one way
 one_way : (v : Way) → volume (v ∷ []) ≡ v.count
 one_way v = volume-way v [] ∙ ap (λ n. v.count * n) volume-none ∙ mul-one v.count
 
-module _ {x : List ℤ} {a : ℕ} {y : List ℤ} {b : ℕ} {v : Way} {lo hi : ℕ} (p : BoxReady x a y b (v ∷ []) lo hi) where
-  pub dot-turn : DotReady x a y b v.count v.step lo hi
-  dot-turn = record {
-    left = λ u c. (box_of_none x (a + u * v.step)).0 ((box_of_way v [] x a).0 p.left u c);
-    right = λ u c. (box_of_none y (b + u * v.step)).0 ((box_of_way v [] y b).0 p.right u c);
-    room = rw (one_way v) at p.room;
+module _ (x : List ℤ) (a : ℕ) (y : List ℤ) (b n s : ℕ) {lo hi : ℕ} where
+  pub dot-none : n ≡ 0 → Added n (dot_at x y n s a b) lo hi lo hi
+  dot-none e =
+      let z = total-zero (λ u. at x (a + u * s) * at y (b + (0 - 1 - u) * s)) in
+      rw (e, z) (added_none lo hi)
+
+  pub dot-ready : DotReady x a y b n s lo hi → 0 < n → BoxReady x a y b (way n s ∷ []) lo hi
+  dot-ready p h = record {
+    some = rw (one_way (way n s)) h;
+    left = (box_of_way (way n s) [] x a).1 (λ u c. (box_of_none x (a + u * s)).1 (p.left u c));
+    right = (box_of_way (way n s) [] y b).1 (λ u c. (box_of_none y (b + u * s)).1 (p.right u c));
+    room = rw (one_way (way n s)) p.room;
   }
 
-  pub dot_end : {l t : ℕ} → Added v.count (dot_at x y v.count v.step a b) lo hi l t → Added (volume (v ∷ [])) (box_at x y (v ∷ []) a b) lo hi l t
+  pub dot_end : {l t : ℕ} → Added (volume (way n s ∷ [])) (box_at x y (way n s ∷ []) a b) lo hi l t → Added n (dot_at x y n s a b) lo hi l t
   unfolding box_at
-  dot_end r = rw (one_way v) r
+  dot_end r = rw (one_way (way n s)) at r
 
 -- ---- two ways
 pub two-words : (v w : Way) (x : List ℤ) (a : ℕ) → ((o : ℕ) → o < v.count → (u : ℕ) → u < w.count → Readable x (a + o * v.step + u * w.step))
@@ -300,13 +315,7 @@ module _ {d z m : List ℕ} {i : ℕ} (p : Places d z m i) where
       rw (eh, et, el, eg) (subst (Laid d m i _) (omega arith) (laid_levels 3 p.low))
 
 -- ---- pairs of elements, in the code's numbers
-pub pairs_small : {d z m : List ℕ} {i : ℕ} {x : List ℤ} {a : ℕ} {y : List ℤ} {b n : ℕ} → PairsReady d z m i x a y b n → 0 < n → size d i ≤ 2 ^ 32
-pairs_small {d} {i = i} {n = n} p s =
-    let more : 1 * size d i ≤ n * size d i = mul-le-mul_right (size d i) s in
-    omega (arith, p.few)
-
-module _ {d z m : List ℕ} {i : ℕ} {x : List ℤ} {a : ℕ} {y : List ℤ} {b n : ℕ} (p : PairsReady d z m i x a y b n)
-    {x' y' : List ℤ} {u : ℕ} {h t l g : Window} (ex : x ≡ x') (ey : y ≡ y')
+module _ {d z m : List ℕ} {i : ℕ} {x : List ℤ} {a : ℕ} {y : List ℤ} {b n : ℕ} (p : PairsReady d z m i x a y b n) {u : ℕ} {h t l g : Window}
     (eu : u ≡ get_or z i 0) (eh : h ≡ window_at d m i 3) (et : t ≡ window_at d m i 2) (el : l ≡ window_at d m i 1) (eg : g ≡ window_at d m i 0) where
   step-at : u ≡ size d i
   step-at = eu ∙ p.places.sized.at i p.places.low
@@ -314,8 +323,8 @@ module _ {d z m : List ℕ} {i : ℕ} {x : List ℤ} {a : ℕ} {y : List ℤ} {b
   laid : Laid d m i (h.way ∷ t.way ∷ l.way ∷ way g.way.count 1 ∷ []) (h.at + t.at + l.at + g.at)
   laid = laid_windows p.places h t l g eh et el eg
 
-  pub pairs-ready : 0 < n → BoxReady x' (a + (h.at + t.at + l.at + g.at)) y' (b + (h.at + t.at + l.at + g.at)) (five_ways (way n u) h.way t.way l.way g.way.count) 0 0
-  pairs-ready s = rw (step-at, ← ex, ← ey) (record {
+  pub pairs-ready : 0 < n → BoxReady x (a + (h.at + t.at + l.at + g.at)) y (b + (h.at + t.at + l.at + g.at)) (five_ways (way n u) h.way t.way l.way g.way.count) 0 0
+  pairs-ready s = rw step-at (record {
     some = rw (volume-way (way n (size d i)) _) (mul-pos s laid.some);
     left = run-words laid n (size d i) x a p.left;
     right = run-words laid n (size d i) y b p.right;
@@ -323,17 +332,17 @@ module _ {d z m : List ℕ} {i : ℕ} {x : List ℤ} {a : ℕ} {y : List ℤ} {b
   })
 
   -- where it starts is inside
-  pub pairs-place : 0 < n → (a + (h.at + t.at + l.at + g.at) < length x') × (b + (h.at + t.at + l.at + g.at) < length y')
+  pub pairs-place : 0 < n → (a + (h.at + t.at + l.at + g.at) < length x) × (b + (h.at + t.at + l.at + g.at) < length y)
   pairs-place s =
       let r = pairs-ready s in
-      (box_inside _ x' _ r.some r.left, box_inside _ y' _ r.some r.right)
+      (box_inside _ x _ r.some r.left, box_inside _ y _ r.some r.right)
 
   pub pairs-sum : {q o : ℕ} → Added (volume (five_ways (way n u) h.way t.way l.way g.way.count))
-      (box_at x' y' (five_ways (way n u) h.way t.way l.way g.way.count) (a + (h.at + t.at + l.at + g.at)) (b + (h.at + t.at + l.at + g.at))) 0 0 q o
+      (box_at x y (five_ways (way n u) h.way t.way l.way g.way.count) (a + (h.at + t.at + l.at + g.at)) (b + (h.at + t.at + l.at + g.at))) 0 0 q o
       → Added (n * size d i) (run_at d m x y i n (size d i) a b) 0 0 q o
   pairs-sum {q} {o} r =
       rw (run_box laid n (size d i) x y a b)
-      (added_more _ (n * size d i) _ 0 0 q o (run_few laid n (size d i)) (rw (step-at, ← ex, ← ey) at r))
+      (added_more _ (n * size d i) _ 0 0 q o (run_few laid n (size d i)) (rw step-at at r))
 
 -- ---- the numbers of a window
 -- where every degree is positive, sizes grow

@@ -1,24 +1,21 @@
 -- Laws of sum and difference in the store.
 use Prim.Native.Nat.{ℕ, suc, ◌+◌, ◌-◌, ◌*◌, ◌<◌, ◌≤◌}
-use native.Mathlib.Nat.{mul-le-mul_right, suc-mul, add-mod-mod, lt_irrefl}
+use native.Mathlib.Nat.{mul-le-mul_right, suc-mul, add-mod-mod}
 use native.Mathlib.Omega.{arith}
-use mathlib.Core.Path.{◌≡◌, refl, sym, ap, ap₂, ◌∙◌, subst}
+use mathlib.Core.Path.{◌≡◌, refl, sym, ap, ◌∙◌, subst}
 use mathlib.Core.Logic.{◌⊎◌, inl, inr}
 use mathlib.Core.Bool.{Bool, true, false}
 use mathlib.Core.List.{List, [], ◌∷◌}
 use lib.IntN.{ℤ, pos}
-use lib.Dec.{ltb→lt}
-use lib.ListN.{length, get_or, set}
+use lib.ListN.{length, get_or}
 use Rattle.algebra.specs.Test.{le_or_lt}
 use Rattle.algebra.specs.Vec.{Vec, coef}
 use Rattle.algebra.specs.Zmod.{Residue, z_group}
 use Rattle.tower.specs.Levels.{degree, El, group}
 use Rattle.tower.specs.Writing.{size, size-zero, size_suc, write, write-zero, write_suc, write_long, slot, slot_long, count_of, size-pos}
-use Rattle.tower.specs.Store.{Put, Kept, kept_refl, kept_trans, kept-wide, kept_join, kept-seg, put-kept, put-seg, put-set}
+use Rattle.tower.specs.Store.{Put, Kept, kept_trans, kept-wide, kept_join, kept-seg, put-kept, put-seg}
 use Rattle.tower.specs.Stands.{Stands, SlotStands, slot_of, degree_told, count_few}
-use Rattle.residue.specs.Number.{Operands}
-use Rattle.residue.specs.Word.{num, at, Narrow}
-use Rattle.arithmetic.specs.Rows.{block_inside, RunStands, behind, word_of, narrow_by, run_block, run_of, Settled}
+use Rattle.arithmetic.specs.Rows.{block_inside, RunStands, behind, word_of, run_block, run_of, Settled}
 use Rattle.arithmetic.specs.Sum.{gained, gained-zero, slot_gained, gained_places, gained-at, gained_number, WordGained, Gained, RowGained, WordTerms, Terms, RowTerms}
 
 -- ---- the loop over the coefficients
@@ -28,15 +25,12 @@ pub record Gaining (p : ℕ) (d : List ℕ) (i n : ℕ) (neg : Bool) (x : List �
   pub so_far : (p_pos : 0 < p) (u : Vec (El p d i) n) (l : ℕ) (v : Vec (El p d i) l) → SlotStands p d i n u w₀ b → SlotStands p d i l v x a
       → (j : ℕ) → j < k → Stands p d i (gained (group p p_pos d i) neg (coef (group p p_pos d i).𝟘 n u j) (coef (group p p_pos d i).𝟘 l v j)) w (b + 1 + j * size d i)
 
-pub gaining_start : (p : ℕ) (d : List ℕ) (i n : ℕ) (neg : Bool) (x : List ℤ) (a : ℕ) (w : List ℤ) (b : ℕ) → Gaining p d i n neg x a w b 0 w
-gaining_start p d i n neg x a w b = record { kept = kept_refl (b + 1) (0 * size d i) w; so_far = λ p_pos u l v hu hv j q. absurd (lt_irrefl 0 (omega arith)) }
-
-module _ (p : ℕ) (d z : List ℕ) (i n : ℕ) (neg : Bool) (x : List ℤ) (a : ℕ) (w₀ : List ℤ) (b : ℕ) (t : RowTerms p d z i n x a b w₀) where
+module _ {p : ℕ} {d z : List ℕ} {i n : ℕ} {x : List ℤ} {a : ℕ} {w₀ : List ℤ} {b : ℕ} (t : RowTerms p d z i n x a b w₀) where
   -- as many coefficients as the degree word counts are there
   pub count_inside : count_of (get_or x a (pos 0)) ≤ t.coefficients
   count_inside = count_few p t.modulus.positive d i x a t.coefficients t.right t.right_stands
 
-  module _ (k : ℕ) (w : List ℤ) (g : Gaining p d i n neg x a w₀ b k w) where
+  module _ {neg : Bool} {k : ℕ} {w : List ℤ} (g : Gaining p d i n neg x a w₀ b k w) where
     left_block : (p_pos : 0 < p) (u : Vec (El p d i) n) → SlotStands p d i n u w₀ b → (j : ℕ) → j < n → k ≤ j → Stands p d i (coef (group p p_pos d i).𝟘 n u j) w (b + 1 + j * size d i)
     left_block p_pos u h j l q =
         let m : k * size d i ≤ j * size d i = mul-le-mul_right (size d i) q in
@@ -45,22 +39,14 @@ module _ (p : ℕ) (d z : List ℕ) (i n : ℕ) (neg : Bool) (x : List ℤ) (a :
     right_block : (p_pos : 0 < p) (l : ℕ) (v : Vec (El p d i) l) → SlotStands p d i l v x a → (j : ℕ) → j < l → Stands p d i (coef (group p p_pos d i).𝟘 l v j) x (a + 1 + j * size d i)
     right_block p_pos l v h j q = run_block p p_pos d i l v x (a + 1) (behind p d i l v x a h) j q
 
-    -- where the next one stands, in words of s = S_i
-    pub gaining_place : k < count_of (get_or x a (pos 0)) → (s : ℕ) → s ≡ size d i → (a + 1 + k * s ≤ length x) × (b + 1 + k * s ≤ length w)
-    gaining_place q s es =
-        let m : k * s ≡ k * size d i = ap (λ (y : ℕ). k * y) es in
-        let ends = block_inside k n (size d i) (omega (arith, t.few)) in
-        let more = block_inside k t.coefficients (size d i) (omega (arith, count_inside)) in
-        (omega (arith, t.right_inside), omega (arith, t.left_inside, g.kept.long))
-
-    pub gaining_settles : (s : ℕ) → s ≡ size d i → (1 ≤ s) × (b + 1 + n * s ≤ length w)
-    gaining_settles s es =
+    pub gaining_settles : {s : ℕ} → s ≡ size d i → (1 ≤ s) × (b + 1 + n * s ≤ length w)
+    gaining_settles {s} es =
         let m : n * s ≡ n * size d i = ap (λ (y : ℕ). n * y) es in
         (omega (arith, size-pos d i), omega (arith, t.left_inside, g.kept.long))
 
     -- the terms of the next one
-    pub gaining_terms : k < count_of (get_or x a (pos 0)) → (a' b' : ℕ) → a' ≡ a + 1 + k * size d i → b' ≡ b + 1 + k * size d i → Terms p d z i x a' b' w
-    gaining_terms q a' b' ea eb =
+    pub gaining_terms : k < count_of (get_or x a (pos 0)) → {a' b' : ℕ} → a' ≡ a + 1 + k * size d i → b' ≡ b + 1 + k * size d i → Terms p d z i x a' b' w
+    gaining_terms q ea eb =
         let p_pos = t.modulus.positive in
         let few = t.few in
         let ends = block_inside k n (size d i) (omega arith) in
@@ -78,9 +64,9 @@ module _ (p : ℕ) (d z : List ℕ) (i n : ℕ) (neg : Bool) (x : List ℤ) (a :
         }
 
     -- and what it leaves
-    pub gaining_next : k < count_of (get_or x a (pos 0)) → (a' b' : ℕ) (w' : List ℤ) → a' ≡ a + 1 + k * size d i → b' ≡ b + 1 + k * size d i
-        → Gained p d i neg x a' b' w w' → (k' : ℕ) → k' ≡ suc k → Gaining p d i n neg x a w₀ b k' w'
-    gaining_next q a' b' w' ea eb h k' ek = subst (λ m. Gaining p d i n neg x a w₀ b m w') (sym ek) (record { kept = wider; so_far = so_far })
+    pub gaining_next : k < count_of (get_or x a (pos 0)) → {a' b' : ℕ} (w' : List ℤ) → a' ≡ a + 1 + k * size d i → b' ≡ b + 1 + k * size d i
+        → Gained p d i neg x a' b' w w' → Gaining p d i n neg x a w₀ b (k + 1) w'
+    gaining_next q {a'} {b'} w' ea eb h = subst (λ m. Gaining p d i n neg x a w₀ b m w') (omega arith) (record { kept = wider; so_far = so_far })
       where
         put : (p_pos : 0 < p) (u : Vec (El p d i) n) (l : ℕ) (v : Vec (El p d i) l) → SlotStands p d i n u w₀ b → SlotStands p d i l v x a
             → Put b' (write p d i (gained (group p p_pos d i) neg (coef (group p p_pos d i).𝟘 n u k) (coef (group p p_pos d i).𝟘 l v k))) w w'
@@ -114,8 +100,8 @@ module _ (p : ℕ) (d z : List ℕ) (i n : ℕ) (neg : Bool) (x : List ℤ) (a :
                 subst (Stands p d i _ w') eb (put-seg (size d i) (write_long p d i _) (put p_pos u l v hu hv)) in
                 subst (λ m. Stands p d i (gained (group p p_pos d i) neg (coef (group p p_pos d i).𝟘 n u m) (coef (group p p_pos d i).𝟘 l v m)) w' (b + 1 + m * size d i)) e last
 
-    pub gaining_end : k ≡ count_of (get_or x a (pos 0)) → (s : ℕ) → s ≡ size d i → (w' : List ℤ) → Settled i n s b w w' → RowGained p d i n neg x a b w₀ w'
-    gaining_end e s es w' h p_pos u l v hu hv = record { kept = kept_trans (kept-wide (omega arith) far g.kept) done.kept; here = done.here }
+    pub gaining_end : k ≡ count_of (get_or x a (pos 0)) → {s : ℕ} → s ≡ size d i → (w' : List ℤ) → Settled i n s b w w' → RowGained p d i n neg x a b w₀ w'
+    gaining_end e {s} es w' h p_pos u l v hu hv = record { kept = kept_trans (kept-wide (omega arith) far g.kept) done.kept; here = done.here }
       where
         r : Vec (El p d i) n
         r = slot_gained (group p p_pos d i) neg n l u v
@@ -168,24 +154,6 @@ word-up p d i neg x a b w w' e h = subst (λ m. Gained p d m neg x a b w w') (sy
         subst (λ l. Put b l w w') (ap (λ m. pos m ∷ []) (gained-number p p_pos neg u v) ∙ sym (write-zero p d (gained (group p p_pos d 0) neg u v)))
         (h u.0 v.0 (word_of p d u w b hu) (word_of p d v x a hv))
 
-module _ {p : ℕ} {x : List ℤ} {a b : ℕ} {w : List ℤ} (t : WordTerms p x a b w) where
-  pub left_narrow : Narrow (get_or w b (pos 0))
-  left_narrow = narrow_by p t.modulus _ t.left t.left_is
-
-  pub right_narrow : Narrow (get_or x a (pos 0))
-  right_narrow = narrow_by p t.modulus _ t.right t.right_is
-
-  pub word-operands : (u v : ℕ) → u ≡ at w b → v ≡ at x a → Operands p u v
-  word-operands u v eu ev =
-      let hu : t.left.0 < p = ltb→lt t.left.0 p t.left.1 in
-      let hv : t.right.0 < p = ltb→lt t.right.0 p t.right.1 in
-      record { narrow = t.modulus.narrow; left = omega (arith, eu, ap num t.left_is); right = omega (arith, ev, ap num t.right_is) }
-
-  pub word-gained : (neg : Bool) (u v r : ℕ) (w' : List ℤ) → u ≡ at w b → v ≡ at x a → r ≡ gained_number neg p u v → w' ≡ set w b (pos r) → WordGained p neg x a b w w'
-  word-gained neg u v r w' eu ev er ew m n hm hn =
-      let value : r ≡ gained_number neg p m n = er ∙ ap₂ (gained_number neg p) (eu ∙ ap num hm) (ev ∙ ap num hn) in
-      subst (λ l. Put b l w w') (ap (λ y. pos y ∷ []) value) (subst (Put b (pos r ∷ []) w) (sym ew) (put-set w b (pos r) t.left_inside))
-
 -- ---- an element above level 0 is a slot
 module _ (p : ℕ) (d z : List ℕ) (i h n : ℕ) (neg : Bool) (x : List ℤ) (a b : ℕ) (w : List ℤ) (e : i ≡ suc h) (en : n ≡ degree d h) where
   pub terms_up : Terms p d z i x a b w → RowTerms p d z h n x a b w
@@ -215,11 +183,3 @@ module _ (p : ℕ) (d z : List ℕ) (i h n : ℕ) (neg : Bool) (x : List ℤ) (a
       go r p_pos u v hu hv =
           subst (λ l. Put b l w w') (ap (slot p d h (degree d h)) (sym (gained_places (group p p_pos d h) neg (degree d h) u v)) ∙ sym (write_suc p d h _))
           (r p_pos u (degree d h) v (slot_of p p_pos d h w b u hu) (slot_of p p_pos d h x a v hv))
-
--- the store keeps its length
-pub gained_long : (p : ℕ) (d z : List ℕ) (i : ℕ) (neg : Bool) (x : List ℤ) (a b : ℕ) (w w' : List ℤ) → Terms p d z i x a b w → Gained p d i neg x a b w w' → length w' ≡ length w
-gained_long p d z i neg x a b w w' t h = (h t.modulus.positive t.left t.right t.left_stands t.right_stands).kept.long
-
-pub row_long : (p : ℕ) (d z : List ℕ) (i n : ℕ) (neg : Bool) (x : List ℤ) (a b : ℕ) (w w' : List ℤ) → RowTerms p d z i n x a b w → RowGained p d i n neg x a b w w' → length w' ≡ length w
-row_long p d z i n neg x a b w w' t h =
-    (h t.modulus.positive t.left t.coefficients t.right t.left_stands t.right_stands).kept.long

@@ -1,14 +1,13 @@
 -- Laws of the sums over pairs of elements of level 1, and that they are what n pairs of any level come to. Assumes nothing.
 --
--- line_narrow, line_small, line_inside == the size and the place do not wrap; the window's first coefficients are inside
+-- line_inside                          == the window's first coefficients are inside
 -- line-rows, line_columns              == what the rows of a window ask for, by either way through it
 -- rows-line, columns_line, none-line   == and what their sum is; no pairs
--- picked_ready, picked_line            == operands in the store or in lent words
 -- line-run                             == what n pairs come to is `run_at` at level 1
 -- line-ready, line_reached, line_few   == what is known of pairs of elements of level 1, in numbers alone
 use mathlib.Core.Path.{◌≡◌, sym, ap, ap₂, subst, ◌∙◌, fun_ext}
 use mathlib.Core.List.{List, [], ◌∷◌}
-use Prim.Native.Nat.{ℕ, suc, ◌+◌, ◌-◌, ◌*◌, ◌^◌, ◌<◌, ◌≤◌}
+use Prim.Native.Nat.{ℕ, suc, ◌+◌, ◌-◌, ◌*◌, ◌<◌, ◌≤◌}
 use native.Mathlib.Nat.{zero-mul, mul-pos, mul-le-mul_left}
 use native.Mathlib.Numerals.{add-one}
 use native.Mathlib.Omega.{arith}
@@ -39,12 +38,6 @@ none-line x y g k n a b e =
     rw (e, zero-mul (suc g), z) (added_none 0 0)
 
 module _ {g : ℕ} {x : List ℤ} {a : ℕ} {y : List ℤ} {b n : ℕ} (p : LineReady g x a y b n) (k : ℕ) (r : PlaceReached g k) where
-  pub line_narrow : 0 < n → length x < 2 ^ 63 → g < 2 ^ 63
-  line_narrow s h = omega (arith, (p.left 0 s (g - 1) (omega arith)).inside)
-
-  pub line_small : 0 < n → length x < 2 ^ 63 → (k + 1 ≤ g + g) × (k + 1 < 2 ^ 64)
-  line_small s h = (omega arith, omega (arith, line_narrow s h))
-
   pub line_inside : {f : ℕ} → 0 < n → f ≡ first g k → (a + 1 + f < length x) × (b + 1 + f < length y)
   line_inside {f} s ef = (omega (arith, (p.left 0 s f (omega arith)).inside), omega (arith, (p.right 0 s f (omega arith)).inside))
 
@@ -78,14 +71,6 @@ module _ {g : ℕ} {x : List ℤ} {a : ℕ} {y : List ℤ} {b n : ℕ} (p : Line
     pub columns_line : {l t : ℕ} → 0 < n → Added (volume (way c 1 ∷ way n (g + 1) ∷ [])) (box_at x y (way c 1 ∷ way n (g + 1) ∷ []) (a + 1 + f) (b + 1 + f)) 0 0 l t
         → Added (n * suc g) (line_at x y g k n a b) 0 0 l t
     columns_line s w = rows-line (alike_sum (alike_swap (way n (g + 1)) (way c 1) []) (line-rows s) w)
-
--- ---- operands in the store or in lent words
-module _ {g : ℕ} {x : List ℤ} {a : ℕ} {y : List ℤ} {b n : ℕ} (p : LineReady g x a y b n) {x' y' : List ℤ} (ex : x ≡ x') (ey : y ≡ y') where
-  pub picked_ready : LineReady g x' a y' b n
-  picked_ready = rw (ex, ey) at p
-
-  pub picked_line : {l t : ℕ} (k : ℕ) → Added (n * suc g) (line_at x' y' g k n a b) 0 0 l t → Added (n * suc g) (line_at x y g k n a b) 0 0 l t
-  picked_line k r = rw (← ex, ← ey) at r
 
 -- ---- as pairs of elements of any level
 level-one : (d : List ℕ) → size d 1 ≡ suc (degree d 0)

@@ -1,30 +1,28 @@
 -- Laws of tiles, and of the sums of elements of two and of four coefficients that are made of them. Assumes nothing.
 --
--- tile-words      == the words of the k-th pair
--- Tiled, TileRoom == k of n pairs are added to the three sums; room for the next
--- tile-start, -room, -next, _end == none is; room for the next; one more; all of them
+-- Tiled                         == k of n pairs are added to the three sums
+-- tile-start, tile-next         == none is; one more
 -- dots-one, dots_split          == windows of one pair are pairs; a window in two parts
 -- Held, held_low, held-ready, held_next == what three sums hold, where they begin, what a tile asks of them, and what it makes of them
--- line-place                    == a residue of the first elements is inside
--- three-ready, three-sums, three-none == one tile is the three sums of two coefficients
--- seven-first, _half, _second, _third, seven-sums, seven-none == four tiles are the seven sums of four
--- picked_three, picked_seven    == operands in the store or in lent words
+-- sums-none                     == no pairs
+-- three-ready, three-sums       == one tile is the three sums of two coefficients
+-- seven-first, _half, _second, _third, seven-sums == four tiles are the seven sums of four
 use mathlib.Core.Path.{◌≡◌, sym, ap, ap₂, subst, ◌∙◌, fun_ext}
-use mathlib.Core.List.{List}
+use mathlib.Core.List.{List, [], ◌∷◌}
 use Prim.Native.Nat.{ℕ, zero, suc, ◌+◌, ◌-◌, ◌*◌, ◌^◌, ◌<◌, ◌≤◌}
-use native.Mathlib.Nat.{add-zero, add-suc, add_assoc, add_right_comm, mul-one, lt_irrefl}
+use native.Mathlib.Nat.{add-zero, add-suc, add_assoc, add_right_comm, lt_irrefl}
 use native.Mathlib.Omega.{arith}
 use lib.IntN.{ℤ}
-use lib.ListN.{length}
+use lib.ListN.{replicate}
+use Rattle.std.proofs.lemmas.List.{get_or-replicate}
 use Rattle.residue.specs.declared.Accumulator.{Accumulator}
-use Rattle.residue.specs.Number.{Room, Added}
+use Rattle.residue.specs.Number.{Added}
 use Rattle.residue.specs.Word.{at}
 use Rattle.residue.proofs.Laws.{room-start, room_after, added_none, added_more, added_then}
-use Rattle.arithmetic.specs.declared.lines.Triple.{Triple}
-use Rattle.arithmetic.specs.declared.lines.Septet.{Septet}
+use Rattle.arithmetic.specs.Places.{wide}
 use Rattle.arithmetic.specs.Walk.{total, total-zero, total_suc, total_cong, dot_at, dots_at, Readable}
-use Rattle.arithmetic.specs.Line.{LineOf, LineReady, ThreeSums, TileOf, TileReady, TileSums, none, from_low, SevenSums}
-use Rattle.arithmetic.proofs.Walks.{total-add, Folded, folded_start, folded_room, folded_next, folded_end}
+use Rattle.arithmetic.specs.Line.{LineOf, LineReady, AllSums, TileOf, TileReady, TileSums, none, sum_at}
+use Rattle.arithmetic.proofs.Walks.{total-add, Folded, folded_start, folded_next}
 use Rattle.arithmetic.proofs.LineSums.{none-line}
 
 -- ---- windows in parts
@@ -64,41 +62,16 @@ module _ (x y : List ℤ) where
       ∙ total-add n (λ o. dot_at x y p 1 (a + o * s) (b + q + (n - 1 - o) * s)) (λ o. dot_at x y q 1 (a + p + o * s) (b + (n - 1 - o) * s))
 
 -- ---- one tile
--- the words of the k-th pair
-pub tile-words : {x : List ℤ} {a : ℕ} {y : List ℤ} {b n step : ℕ} {t : Triple} → TileReady x a y b n step t → (k : ℕ) → k < n
-    → (Readable x (a + k * step) × Readable x (a + k * step + 1)) × (Readable y (b + (n - 1 - k) * step) × Readable y (b + (n - 1 - k) * step + 1))
-tile-words {n = n} p k s = (p.left k s, p.right (n - 1 - k) (omega arith))
-
 -- k of n pairs are added
-pub record Tiled (x y : List ℤ) (n step a b : ℕ) (t : Triple) (k : ℕ) (low middle high : Accumulator) : Type 0 where
-  pub lows : Folded n 1 (λ u. at x (a + u * step) * at y (b + (n - 1 - u) * step)) t.low.lo t.low.hi k low.lo low.hi
-  pub middles : Folded n 2 (λ u. dot_at x y 2 1 (a + u * step) (b + (n - 1 - u) * step)) t.middle.lo t.middle.hi k middle.lo middle.hi
-  pub highs : Folded n 1 (λ u. at x (a + 1 + u * step) * at y (b + 1 + (n - 1 - u) * step)) t.high.lo t.high.hi k high.lo high.hi
+pub record Tiled (x y : List ℤ) (n step a b : ℕ) (t : List Accumulator) (k : ℕ) (low middle high : Accumulator) : Type 0 where
+  pub lows : Folded n 1 (λ u. at x (a + u * step) * at y (b + (n - 1 - u) * step)) (sum_at t 0).lo (sum_at t 0).hi k low.lo low.hi
+  pub middles : Folded n 2 (λ u. dot_at x y 2 1 (a + u * step) (b + (n - 1 - u) * step)) (sum_at t 1).lo (sum_at t 1).hi k middle.lo middle.hi
+  pub highs : Folded n 1 (λ u. at x (a + 1 + u * step) * at y (b + 1 + (n - 1 - u) * step)) (sum_at t 2).lo (sum_at t 2).hi k high.lo high.hi
 
-pub tile-start : (x y : List ℤ) (n step a b : ℕ) (t : Triple) → Tiled x y n step a b t 0 t.low t.middle t.high
+pub tile-start : (x y : List ℤ) (n step a b : ℕ) (t : List Accumulator) → Tiled x y n step a b t 0 (sum_at t 0) (sum_at t 1) (sum_at t 2)
 tile-start x y n step a b t = record { lows = folded_start; middles = folded_start; highs = folded_start }
 
--- room for what the next pair adds
-pub record TileRoom (low middle high : Accumulator) : Type 0 where
-  pub low_room : Room 1 low.lo low.hi
-  pub middle_room : Room 2 middle.lo middle.hi
-  pub high_room : Room 1 high.lo high.hi
-
-module _ {x y : List ℤ} {n step a b : ℕ} {t : Triple} {k : ℕ} {low middle high : Accumulator} (f : Tiled x y n step a b t k low middle high) where
-  pub tile-room : TileReady x a y b n step t → k < n → TileRoom low middle high
-  tile-room p s = record {
-    low_room = folded_room f.lows s (rw (mul-one n) p.low);
-    middle_room = folded_room f.middles s p.middle;
-    high_room = folded_room f.highs s (rw (mul-one n) p.high);
-  }
-
-  pub tile_end : n ≤ k → TileSums x y n step a b t (record { low = low; middle = middle; high = high })
-  tile_end s = record {
-    low = rw (mul-one n) at (folded_end f.lows s);
-    middle = folded_end f.middles s;
-    high = rw (mul-one n) at (folded_end f.highs s);
-  }
-
+module _ {x y : List ℤ} {n step a b : ℕ} {t : List Accumulator} {k : ℕ} {low middle high : Accumulator} (f : Tiled x y n step a b t k low middle high) where
   -- the four products of a pair
   module _ {u v : ℕ} (s : k < n) (eu : u ≡ a + k * step) (ev : v ≡ b + (n - 1 - k) * step) {o q r w : ℕ}
       (eo : o ≡ at x u * at y v) (eq : q ≡ at x u * at y (v + 1)) (er : r ≡ at x (u + 1) * at y v) (ew : w ≡ at x (u + 1) * at y (v + 1)) where
@@ -125,15 +98,19 @@ module _ {x y : List ℤ} {n step a b : ℕ} {t : Triple} {k : ℕ} {low middle 
 
 -- ---- what three sums hold
 -- so many folds have added these numbers, from zero
-pub record Held (t : Triple) (nl nm nh vl vm vh : ℕ) : Type 0 where
-  pub low : Added nl vl 0 0 t.low.lo t.low.hi
-  pub middle : Added nm vm 0 0 t.middle.lo t.middle.hi
-  pub high : Added nh vh 0 0 t.high.lo t.high.hi
+pub record Held (t : List Accumulator) (nl nm nh vl vm vh : ℕ) : Type 0 where
+  pub low : Added nl vl 0 0 (sum_at t 0).lo (sum_at t 0).hi
+  pub middle : Added nm vm 0 0 (sum_at t 1).lo (sum_at t 1).hi
+  pub high : Added nh vh 0 0 (sum_at t 2).lo (sum_at t 2).hi
 
-held_low : (n v : ℕ) (s : Accumulator) → Added n v 0 0 s.lo s.hi → {t : Triple} → t ≡ from_low s → Held t n 0 0 v 0 0
-held_low n v s h e = rw e (record { low = h; middle = added_none 0 0; high = added_none 0 0 })
+-- the low one begun, the others not
+abbrev begun : Accumulator → List Accumulator
+begun s = s ∷ none ∷ none ∷ []
 
-module _ {t : Triple} {nl nm nh vl vm vh : ℕ} (h : Held t nl nm nh vl vm vh) {x : List ℤ} {a : ℕ} {y : List ℤ} {b n step : ℕ} where
+held_low : (n v : ℕ) (s : Accumulator) → Added n v 0 0 s.lo s.hi → Held (begun s) n 0 0 v 0 0
+held_low n v s h = record { low = h; middle = added_none 0 0; high = added_none 0 0 }
+
+module _ {t : List Accumulator} {nl nm nh vl vm vh : ℕ} (h : Held t nl nm nh vl vm vh) {x : List ℤ} {a : ℕ} {y : List ℤ} {b n step : ℕ} where
   held-ready : TileOf n step x a → TileOf n step y b → nl + n ≤ 2 ^ 32 → nm + n * 2 ≤ 2 ^ 32 → nh + n ≤ 2 ^ 32 → TileReady x a y b n step t
   held-ready left right fl fm fh = record {
     left = left;
@@ -149,11 +126,6 @@ line-tile g n x a p v t k s =
     let e : a + k * suc g + 1 + v ≡ a + (1 + v) + k * suc g = omega arith in
     let f : a + k * suc g + 1 + (v + 1) ≡ a + (1 + v) + k * suc g + 1 = omega arith in
     (subst (Readable x) e (p k s v (omega arith)), subst (Readable x) f (p k s (v + 1) t))
-
--- a residue of the first elements is inside
-pub line-place : {g : ℕ} {x : List ℤ} {a : ℕ} {y : List ℤ} {b n : ℕ} → LineReady g x a y b n → 0 < n → (v : ℕ) → v < g
-    → (a + (1 + v) < length x) × (b + (1 + v) < length y)
-line-place p s v t = (omega (arith, (p.left 0 s v t).inside), omega (arith, (p.right 0 s v t).inside))
 
 -- ---- sums over elements of g coefficients, with places counted from a and b
 module _ (x y : List ℤ) (n s a b : ℕ) where
@@ -175,7 +147,7 @@ module _ (x y : List ℤ) (n s a b : ℕ) where
   counted c f = ap₂ (dots_at x y n s c 1) (add_assoc a 1 f) (add_assoc b 1 f)
 
   -- a tile at the places i and j
-  held_next : {t r : Triple} {nl nm nh vl vm vh : ℕ} (i j : ℕ) → Held t nl nm nh vl vm vh → TileSums x y n s (a + i) (b + j) t r
+  held_next : {t r : List Accumulator} {nl nm nh vl vm vh : ℕ} (i j : ℕ) → Held t nl nm nh vl vm vh → TileSums x y n s (a + i) (b + j) t r
       → Held r (nl + n) (nm + n * 2) (nh + n) (vl + pair i j) (vm + window 2 i j) (vh + pair (i + 1) (j + 1))
   held_next {nl = nl} {nm} {nh} {vl} {vm} {vh} i j h r = record {
     low = added_then nl n vl (pair i j) 0 0 _ _ _ _ h.low r.low;
@@ -187,51 +159,35 @@ module _ (x y : List ℤ) (n s a b : ℕ) where
 as_line : (m n v v' : ℕ) (s : Accumulator) → m ≤ n → v ≡ v' → Added m v 0 0 s.lo s.hi → Added n v' 0 0 s.lo s.hi
 as_line m n v v' s h e r = added_more m n v' 0 0 s.lo s.hi h (subst (λ u. Added m u 0 0 s.lo s.hi) e r)
 
--- ---- two coefficients: one tile
-nothing : {t : Triple} → t ≡ from_low none → Held t 0 0 0 0 0 0
+-- ---- no pairs
+nothing : Held (begun none) 0 0 0 0 0 0
 nothing = held_low 0 0 none (added_none 0 0)
 
-pub three-none : (x y : List ℤ) (n a b : ℕ) → n ≡ 0 → {r : Triple} → r ≡ from_low none → ThreeSums x y n a b r
-three-none x y n a b e er = rw er each
-  where
-    each : ThreeSums x y n a b (from_low none)
-    each zero l = none-line x y 2 0 n a b e
-    each (suc zero) l = none-line x y 2 1 n a b e
-    each (suc (suc k)) l = none-line x y 2 (suc (suc k)) n a b e
+-- the sums of all places are none
+pub sums-none : (g : ℕ) (x y : List ℤ) (n a b : ℕ) → n ≡ 0 → AllSums g x y n a b (replicate (wide g) none)
+sums-none g x y n a b e k l = rw (get_or-replicate (wide g) k none none l) (none-line x y g k n a b e)
 
-module _ {x : List ℤ} {a : ℕ} {y : List ℤ} {b n : ℕ} (p : LineReady 2 x a y b n) {t₀ : Triple} (e₀ : t₀ ≡ from_low none) where
-  pub three-ready : TileReady x (a + 1) y (b + 1) n 3 t₀
+-- ---- two coefficients: one tile
+module _ {x : List ℤ} {a : ℕ} {y : List ℤ} {b n : ℕ} (p : LineReady 2 x a y b n) where
+  pub three-ready : TileReady x (a + 1) y (b + 1) n 3 (begun none)
   three-ready =
       let few : n * 3 ≤ 2 ^ 32 = p.few in
-      held-ready (nothing e₀) (line-tile 2 n x a p.left 0 (omega arith)) (line-tile 2 n y b p.right 0 (omega arith))
+      held-ready nothing (line-tile 2 n x a p.left 0 (omega arith)) (line-tile 2 n y b p.right 0 (omega arith))
       (omega arith) (omega arith) (omega arith)
 
-  pub three-sums : {r : Triple} → TileSums x y n 3 (a + 1) (b + 1) t₀ r → ThreeSums x y n a b r
+  pub three-sums : {r : List Accumulator} → TileSums x y n 3 (a + 1) (b + 1) (begun none) r → AllSums 2 x y n a b r
   three-sums {r} t = each
     where
       h : Held r (0 + n) (0 + n * 2) (0 + n) (0 + pair x y n 3 a b 1 1) (0 + window x y n 3 a b 2 1 1) (0 + pair x y n 3 a b 2 2)
-      h = held_next x y n 3 a b 1 1 (nothing e₀) t
+      h = held_next x y n 3 a b 1 1 nothing t
 
-      each : ThreeSums x y n a b r
-      each zero l = as_line _ (n * 3) _ _ r.low (omega arith) (omega (arith, counted x y n 3 a b 1 0, one x y n 3 a b 1 1)) h.low
-      each (suc zero) l = as_line _ (n * 3) _ _ r.middle (omega arith) (omega (arith, counted x y n 3 a b 2 0)) h.middle
-      each (suc (suc zero)) l = as_line _ (n * 3) _ _ r.high (omega arith) (omega (arith, counted x y n 3 a b 1 1, one x y n 3 a b 2 2)) h.high
+      each : AllSums 2 x y n a b r
+      each zero l = as_line _ (n * 3) _ _ _ (omega arith) (omega (arith, counted x y n 3 a b 1 0, one x y n 3 a b 1 1)) h.low
+      each (suc zero) l = as_line _ (n * 3) _ _ _ (omega arith) (omega (arith, counted x y n 3 a b 2 0)) h.middle
+      each (suc (suc zero)) l = as_line _ (n * 3) _ _ _ (omega arith) (omega (arith, counted x y n 3 a b 1 1, one x y n 3 a b 2 2)) h.high
       each (suc (suc (suc k))) l = absurd (lt_irrefl 0 (omega arith))
 
 -- ---- four coefficients: four tiles
-pub seven-none : (x y : List ℤ) (n a b : ℕ) → n ≡ 0 → {f s t : Triple} → f ≡ from_low none → s ≡ from_low none → t ≡ from_low none
-    → SevenSums x y n a b (record { first = f; second = s; third = t })
-seven-none x y n a b e ef es et = rw (ef, es, et) each
-  where
-    each : SevenSums x y n a b (record { first = from_low none; second = from_low none; third = from_low none })
-    each zero l = none-line x y 4 0 n a b e
-    each (suc zero) l = none-line x y 4 1 n a b e
-    each (suc (suc zero)) l = none-line x y 4 2 n a b e
-    each (suc (suc (suc zero))) l = none-line x y 4 3 n a b e
-    each (suc (suc (suc (suc zero)))) l = none-line x y 4 4 n a b e
-    each (suc (suc (suc (suc (suc zero))))) l = none-line x y 4 5 n a b e
-    each (suc (suc (suc (suc (suc (suc k)))))) l = none-line x y 4 (suc (suc (suc (suc (suc (suc k)))))) n a b e
-
 module _ {x : List ℤ} {a : ℕ} {y : List ℤ} {b n : ℕ} (p : LineReady 4 x a y b n) where
   few : n * 5 ≤ 2 ^ 32
   few = p.few
@@ -248,52 +204,53 @@ module _ {x : List ℤ} {a : ℕ} {y : List ℤ} {b n : ℕ} (p : LineReady 4 x 
   right_high : TileOf n 5 y (b + 3)
   right_high = line-tile 4 n y b p.right 2 (omega arith)
 
-  pub seven-first : {t₀ : Triple} → t₀ ≡ from_low none → TileReady x (a + 1) y (b + 1) n 5 t₀
-  seven-first e₀ = held-ready (nothing e₀) left-low right-low (omega (arith, few)) (omega (arith, few)) (omega (arith, few))
+  pub seven-first : TileReady x (a + 1) y (b + 1) n 5 (begun none)
+  seven-first = held-ready nothing left-low right-low (omega (arith, few)) (omega (arith, few)) (omega (arith, few))
 
-  module _ {t₀ first s₀ : Triple} (e₀ : t₀ ≡ from_low none) (t₁ : TileSums x y n 5 (a + 1) (b + 1) t₀ first) (f₀ : s₀ ≡ from_low first.high) where
+  module _ {first : List Accumulator} (t₁ : TileSums x y n 5 (a + 1) (b + 1) (begun none) first) where
     h₁ : Held first (0 + n) (0 + n * 2) (0 + n) (0 + pair x y n 5 a b 1 1) (0 + window x y n 5 a b 2 1 1) (0 + pair x y n 5 a b 2 2)
-    h₁ = held_next x y n 5 a b 1 1 (nothing e₀) t₁
+    h₁ = held_next x y n 5 a b 1 1 nothing t₁
 
-    begun : Held s₀ (0 + n) 0 0 (0 + pair x y n 5 a b 2 2) 0 0
-    begun = held_low (0 + n) (0 + pair x y n 5 a b 2 2) first.high h₁.high f₀
+    lower : Held (begun (sum_at first 2)) (0 + n) 0 0 (0 + pair x y n 5 a b 2 2) 0 0
+    lower = held_low (0 + n) (0 + pair x y n 5 a b 2 2) (sum_at first 2) h₁.high
 
-    pub seven_half : TileReady x (a + 1) y (b + 3) n 5 s₀
-    seven_half = held-ready begun left-low right_high (omega (arith, few)) (omega (arith, few)) (omega (arith, few))
+    pub seven_half : TileReady x (a + 1) y (b + 3) n 5 (begun (sum_at first 2))
+    seven_half = held-ready lower left-low right_high (omega (arith, few)) (omega (arith, few)) (omega (arith, few))
 
-    module _ {half : Triple} (t₂ : TileSums x y n 5 (a + 1) (b + 3) s₀ half) where
+    module _ {half : List Accumulator} (t₂ : TileSums x y n 5 (a + 1) (b + 3) (begun (sum_at first 2)) half) where
       h₂ : Held half (0 + n + n) (0 + n * 2) (0 + n)
           (0 + pair x y n 5 a b 2 2 + pair x y n 5 a b 1 3) (0 + window x y n 5 a b 2 1 3) (0 + pair x y n 5 a b 2 4)
-      h₂ = held_next x y n 5 a b 1 3 begun t₂
+      h₂ = held_next x y n 5 a b 1 3 lower t₂
 
       pub seven_second : TileReady x (a + 3) y (b + 1) n 5 half
       seven_second = held-ready h₂ left_high right-low (omega (arith, few)) (omega (arith, few)) (omega (arith, few))
 
-      module _ {second u₀ : Triple} (t₃ : TileSums x y n 5 (a + 3) (b + 1) half second) (g₀ : u₀ ≡ from_low second.high) where
+      module _ {second : List Accumulator} (t₃ : TileSums x y n 5 (a + 3) (b + 1) half second) where
         h₃ : Held second (0 + n + n + n) (0 + n * 2 + n * 2) (0 + n + n)
             (0 + pair x y n 5 a b 2 2 + pair x y n 5 a b 1 3 + pair x y n 5 a b 3 1) (0 + window x y n 5 a b 2 1 3 + window x y n 5 a b 2 3 1)
             (0 + pair x y n 5 a b 2 4 + pair x y n 5 a b 4 2)
         h₃ = held_next x y n 5 a b 3 1 h₂ t₃
 
-        upper : Held u₀ (0 + n + n) 0 0 (0 + pair x y n 5 a b 2 4 + pair x y n 5 a b 4 2) 0 0
-        upper = held_low (0 + n + n) (0 + pair x y n 5 a b 2 4 + pair x y n 5 a b 4 2) second.high h₃.high g₀
+        upper : Held (begun (sum_at second 2)) (0 + n + n) 0 0 (0 + pair x y n 5 a b 2 4 + pair x y n 5 a b 4 2) 0 0
+        upper = held_low (0 + n + n) (0 + pair x y n 5 a b 2 4 + pair x y n 5 a b 4 2) (sum_at second 2) h₃.high
 
-        pub seven_third : TileReady x (a + 3) y (b + 3) n 5 u₀
+        pub seven_third : TileReady x (a + 3) y (b + 3) n 5 (begun (sum_at second 2))
         seven_third = held-ready upper left_high right_high (omega (arith, few)) (omega (arith, few)) (omega (arith, few))
 
-        pub seven-sums : {third : Triple} → TileSums x y n 5 (a + 3) (b + 3) u₀ third
-            → SevenSums x y n a b (record { first = first; second = second; third = third })
+        pub seven-sums : {third : List Accumulator} → TileSums x y n 5 (a + 3) (b + 3) (begun (sum_at second 2)) third
+            → AllSums 4 x y n a b (sum_at first 0 ∷ sum_at first 1 ∷ sum_at second 0 ∷ sum_at second 1 ∷ sum_at third 0 ∷ sum_at third 1 ∷ sum_at third 2 ∷ [])
         seven-sums {third} t₄ = each
           where
             h₄ : Held third (0 + n + n + n) (0 + n * 2) (0 + n) (0 + pair x y n 5 a b 2 4 + pair x y n 5 a b 4 2 + pair x y n 5 a b 3 3)
                 (0 + window x y n 5 a b 2 3 3) (0 + pair x y n 5 a b 4 4)
             h₄ = held_next x y n 5 a b 3 3 upper t₄
 
-            each : SevenSums x y n a b (record { first = first; second = second; third = third })
-            each zero l = as_line _ (n * 5) _ _ first.low (omega arith) (omega (arith, counted x y n 5 a b 1 0, one x y n 5 a b 1 1)) h₁.low
-            each (suc zero) l = as_line _ (n * 5) _ _ first.middle (omega arith) (omega (arith, counted x y n 5 a b 2 0)) h₁.middle
+            each : AllSums 4 x y n a b
+                (sum_at first 0 ∷ sum_at first 1 ∷ sum_at second 0 ∷ sum_at second 1 ∷ sum_at third 0 ∷ sum_at third 1 ∷ sum_at third 2 ∷ [])
+            each zero l = as_line _ (n * 5) _ _ _ (omega arith) (omega (arith, counted x y n 5 a b 1 0, one x y n 5 a b 1 1)) h₁.low
+            each (suc zero) l = as_line _ (n * 5) _ _ _ (omega arith) (omega (arith, counted x y n 5 a b 2 0)) h₁.middle
             each (suc (suc zero)) l =
-                as_line _ (n * 5) _ _ second.low (omega arith)
+                as_line _ (n * 5) _ _ _ (omega arith)
                 (omega (
                   arith,
                   counted x y n 5 a b 3 0,
@@ -304,9 +261,9 @@ module _ {x : List ℤ} {a : ℕ} {y : List ℤ} {b n : ℕ} (p : LineReady 4 x 
                   one x y n 5 a b 3 1,
                 )) h₃.low
             each (suc (suc (suc zero))) l =
-                as_line _ (n * 5) _ _ second.middle (omega arith) (omega (arith, counted x y n 5 a b 4 0, split x y n 5 a b 2 2 1 1)) h₃.middle
+                as_line _ (n * 5) _ _ _ (omega arith) (omega (arith, counted x y n 5 a b 4 0, split x y n 5 a b 2 2 1 1)) h₃.middle
             each (suc (suc (suc (suc zero)))) l =
-                as_line _ (n * 5) _ _ third.low (omega arith)
+                as_line _ (n * 5) _ _ _ (omega arith)
                 (omega (
                   arith,
                   counted x y n 5 a b 3 1,
@@ -317,15 +274,7 @@ module _ {x : List ℤ} {a : ℕ} {y : List ℤ} {b n : ℕ} (p : LineReady 4 x 
                   one x y n 5 a b 4 2,
                 )) h₄.low
             each (suc (suc (suc (suc (suc zero))))) l =
-                as_line _ (n * 5) _ _ third.middle (omega arith) (omega (arith, counted x y n 5 a b 2 2)) h₄.middle
+                as_line _ (n * 5) _ _ _ (omega arith) (omega (arith, counted x y n 5 a b 2 2)) h₄.middle
             each (suc (suc (suc (suc (suc (suc zero)))))) l =
-                as_line _ (n * 5) _ _ third.high (omega arith) (omega (arith, counted x y n 5 a b 1 3, one x y n 5 a b 4 4)) h₄.high
+                as_line _ (n * 5) _ _ _ (omega arith) (omega (arith, counted x y n 5 a b 1 3, one x y n 5 a b 4 4)) h₄.high
             each (suc (suc (suc (suc (suc (suc (suc k))))))) l = absurd (lt_irrefl 0 (omega arith))
-
--- ---- operands in the store or in lent words
-module _ {g : ℕ} {x : List ℤ} {a : ℕ} {y : List ℤ} {b n : ℕ} (p : LineReady g x a y b n) {x' y' : List ℤ} (ex : x ≡ x') (ey : y ≡ y') where
-  pub picked_three : (r : Triple) → ThreeSums x' y' n a b r → ThreeSums x y n a b r
-  picked_three _ r = rw (← ex, ← ey) at r
-
-  pub picked_seven : (r : Septet) → SevenSums x' y' n a b r → SevenSums x y n a b r
-  picked_seven _ r = rw (← ex, ← ey) at r

@@ -1,11 +1,11 @@
 -- Laws of the search for the highest coefficient, and of the degree word.
-use Prim.Native.Nat.{ℕ, zero, suc, ◌+◌, ◌-◌, ◌*◌, ◌<◌, ◌≤◌}
-use native.Mathlib.Nat.{mul-le-mul_right, mul-le-mul_left, mul-one, suc-mul, lt_irrefl}
+use Prim.Native.Nat.{ℕ, suc, ◌+◌, ◌-◌, ◌*◌, ◌<◌, ◌≤◌}
+use native.Mathlib.Nat.{lt_irrefl}
 use native.Mathlib.Omega.{arith}
 use mathlib.Core.Path.{◌≡◌, refl, sym, ap, ◌∙◌, subst}
 use mathlib.Core.Bool.{true, false}
 use mathlib.Core.List.{List, [], ◌∷◌}
-use lib.IntN.{ℤ, pos, negsuc}
+use lib.IntN.{ℤ, pos}
 use lib.Dec.{T}
 use lib.ListN.{length, get_or}
 use Rattle.algebra.specs.Vec.{Vec, coef, coef_below}
@@ -62,35 +62,17 @@ top-none i n s w a z p d v p_pos es h =
     count_unique (zero_test p p_pos d i) n v 0 (record { top = λ j e q. lt_irrefl 0 (omega arith); rest = λ j l. z p d v p_pos es h j l })
 
 -- ---- going down from k
-pub down_fits : (k n s : ℕ) → 0 < k → k ≤ n → (k - 1) * s + s ≤ n * s
-down_fits zero n s h l = absurd (lt_irrefl 0 h)
-down_fits (suc k) n s h l =
-    let q : suc k * s ≤ n * s = mul-le-mul_right s l in
-    let e : suc k - 1 ≡ k = omega arith in
-    rw e (omega (arith, suc-mul k s))
-
 module _ (i n s : ℕ) (w : List ℤ) (a k b : ℕ) (some : 0 < k) (few : k ≤ n) (eb : b ≡ a + (k - 1) * s) (z : ZeroFrom i n s w a k) where
   pred : suc (k - 1) ≡ k
   pred = omega (arith, some)
 
-  pub top_down : eq_z (get_or w b (pos 0)) (head_of i) ≡ false → Top i n s w a k
-  top_down t = subst (Top i n s w a) pred (top_here i n s w a (k - 1) (omega arith) b eb (subst (ZeroFrom i n s w a) (sym pred) z) t)
+  pub top_down : eq_z (get_or w b (pos 0)) (head_of i) ≡ false → Top i n s w a (k - 1 + 1)
+  top_down t = subst (Top i n s w a) (omega arith) (top_here i n s w a (k - 1) (omega arith) b eb (subst (ZeroFrom i n s w a) (sym pred) z) t)
 
   pub zero_down : eq_z (get_or w b (pos 0)) (head_of i) ≡ true → ZeroFrom i n s w a (k - 1)
   zero_down t = zero-next i n s w a (k - 1) (omega arith) b eb (subst (ZeroFrom i n s w a) (sym pred) z) t
 
 -- ---- the degree word
-pub degree-put : {w w' : List ℤ} (a c : ℕ) (g : ℤ) → g ≡ degree_word c → Put a (g ∷ []) w w' → Put a (degree_word c ∷ []) w w'
-degree-put {w} {w'} a c g e h = subst (λ x. Put a (x ∷ []) w w') e h
-
-pub degree-none : (c : ℕ) → c ≡ 0 → negsuc 0 ≡ degree_word c
-degree-none zero h = refl
-degree-none (suc c) h = absurd (lt_irrefl 0 (omega arith))
-
-pub degree-some : (c : ℕ) → (c ≡ 0 → ⊥) → pos (c - 1) ≡ degree_word c
-degree-some zero h = absurd (h refl)
-degree-some (suc c) h = ap pos (omega arith)
-
 -- the coefficients stand behind it as before
 slot_settled : (i n s a : ℕ) (w w' : List ℤ) (r : ℕ) → Top i n s w (a + 1) r → Put a (degree_word r ∷ []) w w'
     → (p : ℕ) (d : List ℕ) (v : Vec (El p d i) n) → 0 < p → s ≡ size d i → RunStands p d i n v w (a + 1) → Put a (slot p d i n v) w w'
@@ -110,6 +92,3 @@ slot_settled i n s a w w' r t q p d v p_pos es h = put-append refl head (record 
 
 pub settled : (i n s a : ℕ) (w w' : List ℤ) (r : ℕ) → Top i n s w (a + 1) r → Put a (degree_word r ∷ []) w w' → Settled i n s a w w'
 settled i n s a w w' r t q = (q.kept, slot_settled i n s a w w' r t q)
-
-pub some-each : (n s : ℕ) → 1 ≤ s → n ≤ n * s
-some-each n s h = rw (mul-one n) at (mul-le-mul_left n h)

@@ -2,29 +2,24 @@
 --
 -- total-add                         == of sums of two terms
 -- grid_swap                         == rows and columns of a sum over two places exchanged
--- product_small                     == a product of two words that may be read fits a word
 -- Folded                            == k of n terms are added, each by w folds
 -- folded_start, _room, _next, _end  == none is; room for the next; one more; all of them
 -- residues_zero, residues_suc       == what `Residues` says at level 0, and above
--- pick_true, pick_false, pick_short == the store, or the lent words; either is as short as a list is
 -- pairs-none                        == no pairs
 use mathlib.Core.Path.{◌≡◌, sym, ap, ap₂, subst, ◌∙◌, fun_ext}
-use mathlib.Core.Bool.{Bool, true, false}
 use mathlib.Core.List.{List}
 use mathlib.Core.Logic.{◌↔◌}
-use Prim.Native.Nat.{ℕ, zero, suc, ◌+◌, ◌-◌, ◌*◌, ◌^◌, ◌<◌, ◌≤◌}
-use native.Mathlib.Nat.{add_right_comm, zero-mul, suc-mul, mul-le-mul, mul-le-mul_right}
+use Prim.Native.Nat.{ℕ, zero, suc, ◌+◌, ◌-◌, ◌*◌, ◌<◌, ◌≤◌}
+use native.Mathlib.Nat.{add_right_comm, zero-mul, suc-mul, mul-le-mul_right}
 use native.Mathlib.Numerals.{add-one}
 use native.Mathlib.Omega.{arith}
 use lib.IntN.{ℤ}
-use lib.ListN.{length}
 use Rattle.residue.specs.Number.{Room, Added}
-use Rattle.residue.specs.Word.{at}
 use Rattle.residue.proofs.Laws.{room_after, added_none, added_then}
 use Rattle.tower.specs.Levels.{degree}
 use Rattle.tower.specs.Writing.{size}
 use Rattle.arithmetic.specs.Walk.{total, total-zero, total_suc, pair_at, run_at}
-use Rattle.arithmetic.specs.Walk.{Readable, Residues, pick}
+use Rattle.arithmetic.specs.Walk.{Readable, Residues}
 
 -- ---- sums
 total-none : (n : ℕ) → total n (λ u. 0) ≡ 0
@@ -49,13 +44,6 @@ grid_swap h rows apart n step a b =
     total_swap rows n (λ o u. h (a + o * apart + u * step) (b + (rows - 1 - o) * apart + (n - 1 - u) * step))
     ∙ ap (total n) (fun_ext (λ u. ap (total rows) (fun_ext (λ o.
     ap₂ h (add_right_comm a (o * apart) (u * step)) (add_right_comm b ((rows - 1 - o) * apart) ((n - 1 - u) * step))))))
-
--- ---- two words
-pub product_small : {x : List ℤ} {a : ℕ} {y : List ℤ} {b u v : ℕ} → Readable x a → Readable y b → u ≡ at x a → v ≡ at y b → u * v < 2 ^ 64
-product_small {x} {a} {y} {b} {u} {v} hx hy eu ev =
-    let s : u ≤ 2 ^ 32 - 1 = omega (arith, hx.narrow.small) in
-    let t : v ≤ 2 ^ 32 - 1 = omega (arith, hy.narrow.small) in
-    omega (arith, mul-le-mul s t)
 
 -- ---- the loops: k of n terms are added, each by w folds
 pub record Folded (n w : ℕ) (h : ℕ → ℕ) (lo hi k l t : ℕ) : Type 0 where
@@ -92,18 +80,7 @@ pub residues_suc : (d : List ℕ) (i : ℕ) (x : List ℤ) (a : ℕ)
 unfolding Residues
 residues_suc d i x a = (λ r. r, λ r. r)
 
--- ---- operands in the store or in lent words
-pub pick_true : (f : Bool) (w x : List ℤ) → f ≡ true → pick f w x ≡ w
-pick_true f w x e = ap (λ g. pick g w x) e
-
-pub pick_false : (f : Bool) (w x : List ℤ) → f ≡ false → pick f w x ≡ x
-pick_false f w x e = ap (λ g. pick g w x) e
-
--- either is as short as a list is
-pub pick_short : (f : Bool) (w x : List ℤ) → length w < 2 ^ 63 → length x < 2 ^ 63 → length (pick f w x) < 2 ^ 63
-pick_short true w x h k = h
-pick_short false w x h k = k
-
+-- ---- no pairs
 pub pairs-none : (d m : List ℕ) (i : ℕ) (x y : List ℤ) (n step a b : ℕ) → n ≡ 0 → Added (n * size d i) (run_at d m x y i n step a b) 0 0 0 0
 pairs-none d m i x y n step a b e =
     let f = total-zero (λ u. pair_at d m x y i (a + u * step) (b + (0 - 1 - u) * step)) in

@@ -2,6 +2,23 @@
 ghost use Rattle.std.specs.Prelude.{◌≡◌, ◌+◌, ◌*◌, ◌^◌, ◌<◌, ◌≤◌, get_or, set};
 ghost use Rattle.arithmetic.specs.Places.{keeps_at, loses_at, wide};
 ghost use Rattle.algebra.specs.Windows.{first, span};
+ghost use Rattle.arithmetic.specs.Walk.{pick};
+
+// Words to read: of the store or of a lent list, from a place on.
+// Stays: a flag beside the list, since ProductReady and ProductDone of products tell operands by both, and what they say may not change.
+#[derive(Clone, Copy)]
+pub struct Source<'a> {
+    pub lent: &'a [i64],
+    pub stored: bool,
+    pub at: usize,
+}
+
+// The list that such words stand in, beside the store w.
+pub fn words_of<'a>(s: Source<'a>, w: &'a [i64]) -> &'a [i64]
+    ensures { result.now ≡ pick s.entry.stored w.now s.entry.lent.now }
+{
+    if s.stored { w } else { s.lent }
+}
 
 // The place of level i + 1.
 pub fn place_at(m: [usize; 4], i: usize) -> usize
@@ -16,10 +33,7 @@ pub fn first_of(n: usize, k: usize) -> usize
     requires { k + 1 < 2 ^ 64 }
     ensures { result ≡ first n k }
 {
-    if k < n {
-        return 0;
-    }
-    k + 1 - n
+    (k + 1).saturating_sub(n)
 }
 
 // How many pairs of m and n coefficients meet at the place k of their product.
@@ -31,13 +45,12 @@ pub fn span_of(m: usize, n: usize, k: usize) -> usize
 }
 
 // The places with k for level i + 1.
-pub fn with_place(m: [usize; 4], i: usize, k: usize) -> [usize; 4]
+pub fn with_place(mut m: [usize; 4], i: usize, k: usize) -> [usize; 4]
     requires { i < 4 }
     ensures { result ≡ set m i k }
 {
-    let mut n = m;
-    n[i] = k;
-    n
+    m[i] = k;
+    m
 }
 
 // How many coefficients a product of two polynomials of g coefficients has.
@@ -60,18 +73,12 @@ pub fn part_at(a: usize, k: usize, s: usize) -> usize
 pub fn keeps(keep: bool, k: usize, g: usize) -> bool
     ensures { result ≡ keeps_at keep k g }
 {
-    if keep {
-        return k < g;
-    }
-    false
+    keep && k < g
 }
 
 // Whether the k-th of such coefficients is subtracted: all from g on are.
 pub fn loses(neg: bool, k: usize, g: usize) -> bool
     ensures { result ≡ loses_at neg k g }
 {
-    if k < g {
-        return neg;
-    }
-    true
+    g <= k || neg
 }

@@ -12,11 +12,7 @@ pub fn put_degree(w: &mut [i64], at: usize, c: usize)
     requires { (at < length w.old) × (c < 2 ^ 63) }
     ensures { Put at (degree_word c ∷ []) w.old w.new }
 {
-    if c == 0 {
-        put_word(w, at, -1);
-        return;
-    }
-    put_word(w, at, (c - 1) as i64);
+    put_word(w, at, c as i64 - 1);
 }
 
 // The highest of the n elements of level i, each of s words, behind the degree word at a place, that is not zero, counted from 1; 0 where all are zero.
@@ -24,12 +20,10 @@ pub fn top_of(i: usize, n: usize, s: usize, w: &[i64], at: usize) -> usize
     requires { (1 ≤ s) × (at + 1 + n * s ≤ length w.now) }
     ensures { Top i n s w.now (at + 1) result × (result ≤ n) }
 {
-    let mut k = n;
-    while 0 < k {
-        if !is_zero(i, w, coefficient_at(at, k - 1, s)) {
-            return k;
+    for k in (0..n).rev() {
+        if !is_zero(i, w, coefficient_at(at, k, s)) {
+            return k + 1;
         }
-        k -= 1;
     }
     0
 }

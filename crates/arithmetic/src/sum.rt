@@ -9,14 +9,16 @@ use tower::sizes::{degree_at, size_at};
 use tower::words::count_at;
 
 // u + v, or u - v where neg.
+// Stays: a bool and no closure, since Gained and RowGained, by which products and the kernel promise, tell the two by it.
 pub fn gain(neg: bool, u: u64, v: u64, p: u64) -> u64
     requires { Operands p u v }
     ensures { Below p (gained_number neg p u v) result }
 {
     if neg {
-        return residue::subtract(u, v, p);
+        residue::subtract(u, v, p)
+    } else {
+        residue::add(u, v, p)
     }
-    residue::add(u, v, p)
 }
 
 // The same of one word.
@@ -47,9 +49,9 @@ pub fn gain_element(
 {
     if i == 0 {
         gain_word(neg, p, x, a, w, at);
-        return;
+    } else {
+        gain_row(i - 1, degree_at(d, i - 1), neg, p, d, z, x, a, w, at);
     }
-    gain_row(i - 1, degree_at(d, i - 1), neg, p, d, z, x, a, w, at);
 }
 
 // The same of a slot of n coefficients of level i: as many as the other's degree counts, and then the degree word.
@@ -71,8 +73,7 @@ pub fn gain_row(
 {
     let c = count_at(x, a);
     let s = size_at(z, i);
-    let mut k: usize = 0;
-    while k < c {
+    for k in 0..c {
         gain_element(
             i,
             neg,
@@ -84,7 +85,6 @@ pub fn gain_row(
             w,
             coefficient_at(at, k, s),
         );
-        k += 1;
     }
     settle(i, n, s, w, at);
 }

@@ -1,40 +1,36 @@
--- What becomes of a byte of the input: it is gathered behind the bytes of its line, or it ends the line.
+-- What becomes of a byte of the input: it is gathered behind the bytes of its line, or it ends the line. Assumes nothing.
 --
--- next_line == the number of the line behind this
--- Started   == a line of which no byte is gathered
--- Gathered  == one byte behind those gathered, of which the first line_bytes are held
--- Ended     == the line that was gathered is answered, and the next is started
--- Fed       == a byte 10 ends the line; any other is gathered, and what is kept stays
-use Rattle.std.specs.Prelude.{◌≡◌, ℕ, ◌+◌, ◌%◌, ◌^◌, true, List, [], ◌∷◌, ◌++◌, take, ℤ}
-use Rattle.lines.specs.declared.Kept.{Kept}
+-- line_bytes == the bytes of the store of a line
+-- next_line  == the number of the line behind this
+-- Gathered   == one byte behind those gathered, of which the first line_bytes are held
+-- Ended      == the line that was gathered is answered, and the next is started
+-- Fed        == a byte 10 ends the line; any other is gathered
+use Rattle.std.specs.Prelude.{◌≡◌, ℕ, ◌+◌, ◌%◌, ◌^◌, [], ◌∷◌, ◌++◌, take}
 use Rattle.lines.specs.Kept.{Stepped}
-use Rattle.calculator.specs.declared.Reading.{Reading}
-use Rattle.calculator.specs.Sound.{line_bytes, Sound}
+use Rattle.calculator.specs.declared.state.Calculator.{Calculator}
+
+-- LINE_BYTES of src/main.rt
+abbrev pub line_bytes : ℕ
+line_bytes = 8193
 
 abbrev pub next_line : ℕ → ℕ
 next_line n = (n + 1) % 2 ^ 64
 
-pub record Started (kept : Kept) (line : ℕ) (r : Reading) : Type 0 where
-  pub sound : Sound r
-  pub kept_is : r.kept ≡ kept
-  pub none : r.bytes ≡ 0
-  pub line_is : r.line ≡ line
-  pub more_is : r.more ≡ true
-
-pub record Gathered (s : Reading) (byte : ℕ) (text : List ℕ) (r : Reading) (text' : List ℕ) : Type 0 where
-  pub sound : Sound r
-  pub bytes_are : take r.bytes text' ≡ take line_bytes (take s.bytes text ++ (byte ∷ []))
+-- what is kept stays
+pub record Gathered (s : Calculator) (byte : ℕ) (r : Calculator) : Type 0 where
+  pub bytes_are : take r.bytes r.text ≡ take line_bytes (take s.bytes s.text ++ (byte ∷ []))
   pub kept_is : r.kept ≡ s.kept
+  pub stores_are : r.stores ≡ s.stores
   pub line_is : r.line ≡ s.line
-  pub more_is : r.more ≡ s.more
 
--- the stores are those of the tower, of a, of b and of the bytes to be written
-pub record Ended (s : Reading) (text : List ℕ) (tower a b : List ℤ) (out : List ℕ) (r : Reading) (tower' a' b' : List ℤ) (out' : List ℕ) : Type 0 where
-  pub stepped : Stepped (take s.bytes text) s.line s.kept tower a b r.kept tower' a' b' out out'
-  pub started : Started r.kept (next_line s.line) r
+-- as many bytes of out as are told are written
+pub record Ended (s r : Calculator) : Type 0 where
+  pub told : ℕ
+  pub stepped :
+      Stepped (take s.bytes s.text) s.line s.kept s.stores.tower s.stores.a s.stores.b r.kept told r.stores.tower r.stores.a r.stores.b s.out r.out
+  pub none : r.bytes ≡ 0
+  pub line_is : r.line ≡ next_line s.line
 
-pub record Fed (s : Reading) (byte : ℕ) (text : List ℕ) (tower a b : List ℤ) (out : List ℕ)
-    (r : Reading) (text' : List ℕ) (tower' a' b' : List ℤ) (out' : List ℕ) : Type 0 where
-  pub sound : Sound r
-  pub ends : byte ≡ 10 → Ended s text tower a b out r tower' a' b' out'
-  pub gathers : ¬ (byte ≡ 10) → Gathered s byte text r text' × (tower' ≡ tower) × (a' ≡ a) × (b' ≡ b)
+pub record Fed (s : Calculator) (byte : ℕ) (r : Calculator) : Type 0 where
+  pub ends : byte ≡ 10 → Ended s r
+  pub gathers : ¬ (byte ≡ 10) → Gathered s byte r

@@ -2,7 +2,7 @@
 --
 -- view-none      == none: the empty part
 -- view-ready     == some: a and b have degree words
--- b_fits, view_b == where b has the higher degree, its leading coefficient stands in its slot, and is the part;  a_some, a_fits, view_a == and else a's
+-- view_b == where b has the higher degree, its leading coefficient stands in its slot, and is the part;  view_a == and else a's
 use Rattle.capi.specs.ViewCodes.{part_code, ViewCoded}
 use Rattle.kernel.specs.Calls.{size_of}
 use Rattle.kernel.specs.Promises.{LeadingShown}
@@ -123,17 +123,8 @@ module _ {p n : ℤ} {e t a b w : List ℤ} (shown : LeadingShown p n e t a b w)
       is_a : l ≤ k → leading_part p n e t a b ≡ top_part false (size_of n e) k
       is_a q = part_a p n e t a b passed (omega arith) ∙ ap (top_part false (size_of n e)) (sym ek)
 
-      pub b_fits : k < l → 0 + 1 + (l - 1) * s < 2 ^ 64
-      b_fits q = fits true l (is_b q) (omega (arith, ready_b, ap (λ j. j * size_of n e) el))
-
       pub view_b : k < l → (i : ℕ) → i ≡ 0 + 1 + (l - 1) * s → ViewCoded p n e t a b 2 i s
       view_b q = coded true l (is_b q) 2 refl
-
-      pub a_some : l ≤ k → 0 < k
-      a_some q = (top false k (is_a q)).0
-
-      pub a_fits : l ≤ k → 0 + 1 + (k - 1) * s < 2 ^ 64
-      a_fits q = fits false k (is_a q) (omega (arith, ready_a, ap (λ j. j * size_of n e) ek))
 
       pub view_a : l ≤ k → (i : ℕ) → i ≡ 0 + 1 + (k - 1) * s → ViewCoded p n e t a b 1 i s
       view_a q = coded false k (is_a q) 1 refl

@@ -2,6 +2,8 @@
 // beside the answer goes through a pointer. The answer is a number: 0 is Done, a refusal is its own number, and a shown factor 100 and its level; the leading
 // view, which refuses nothing, answers which slot it shows. What each call gives, refuses and writes is the kernel's promise; here it is only told in numbers.
 //
+// Stays: the lists of a call are no struct and the degrees travel alone, as they are what C lends.
+//
 // Nothing checks a caller's pointers: each must be valid and aligned, each list as long as its length says, degrees four words and sizes three; and what a
 // call may write (a of sum, difference and division, c, q, r, g, the factor buffer, the work store, sizes, residue, start and count) must overlap nothing else
 // that is lent to it.
@@ -19,6 +21,7 @@ use tower::form::coefficient_at;
 use tower::words::count_at;
 
 // The number of an answer.
+// Stays: a number and no enum, as the calls for C answer so, and no `From`, as it asks of an answer that it is plain.
 fn code_of(answer: Answer) -> usize
     requires { Plain (said answer) }
     ensures { result ≡ code (said answer) }
@@ -70,12 +73,10 @@ pub extern "C" fn mausvioline_work_sizes(
     ensures coded { SizesCoded n degrees.now a b sizes.old result sizes.new }
 {
     let found = kernel::work_sizes(n, *degrees, a, b);
-    let answer = found.answer;
-    let code = code_of(answer);
-    if 0 < code {
-        return code;
+    let code = code_of(found.answer);
+    if code == 0 {
+        *sizes = [found.product, found.inverse, found.gcd];
     }
-    *sizes = [found.product, found.inverse, found.gcd];
     code
 }
 
@@ -85,12 +86,10 @@ pub extern "C" fn mausvioline_fraction(p: i64, n: i64, e: i64, residue: &mut u64
     ensures coded { FractionCoded p n e residue.old result residue.new }
 {
     let found = kernel::residue_of_fraction(p, n, e);
-    let answer = found.answer;
-    let code = code_of(answer);
-    if 0 < code {
-        return code;
+    let code = code_of(found.answer);
+    if code == 0 {
+        *residue = found.residue;
     }
-    *residue = found.residue;
     code
 }
 

@@ -1,37 +1,38 @@
 -- Laws of division by a monic polynomial.
 --
--- monic-zero, monic-one            == the test of the leading coefficient: of a divisor zero, and of another by the words that it begins with
+-- monic-one                        == the test of the leading coefficient, by the words that it begins with
 -- monic-some, lead_few, lead_inside == the divisor's words: there is one for the degree, and the leading coefficient stands in them
--- slots_shape, monic-ready       == what is known when the tests of `slots` have given no number
+-- monic-ready                    == what is known when the tests of `slots` have given no number
 -- division-first, division_end   == the number, from the one of those tests and from the monic test
--- division-shape, some_a, some-q == what is known when the division has got no number either
+-- some_a, some-q                 == what is known when the division has got no number either
 -- divide-ready                   == what `divide` asks for;  store_serves, word_serves == the store to work in is long enough, at level 0 one word
 -- clear_fits, work-cleared       == the work store is cleared;  work_untouched == at level 0 there is nothing to clear
 -- division_refused, parted_done  == the promise;  division-plain == of numbers that went through a call
-use Rattle.kernel.proofs.Order.{then_first, then_next, zero_of}
-use Rattle.kernel.proofs.Shapes.{size-found, slot-words}
+use Rattle.kernel.proofs.Order.{then_first, then_next}
+use Rattle.kernel.proofs.Shapes.{size-found, length-found, form-found, slot-words}
 use Rattle.kernel.proofs.Summing.{refused_by, done_by}
 use Rattle.kernel.proofs.Slotting.{slots_passed, count-words, tower_holds, a_holds, b_holds, a_long, c_long, slots_ready, work_fits, work_none, store_fits}
 use Rattle.kernel.proofs.Slotting.{put_whole, cleared-none, cleared_by}
-use Rattle.kernel.specs.Calls.{size_of, coefficients_of, shape_table, shape_number}
+use Rattle.kernel.specs.Answers.{number_of}
+use Rattle.kernel.specs.Calls.{size_of, coefficients_of}
 use Rattle.kernel.specs.Divisions.{divisor_degree, monic_words, monic_row, division_table, division_number}
 use Rattle.kernel.specs.Divisions.{remainder_of, quotient_of, remainder_words, quotient_words, DivisionWords}
 use Rattle.kernel.specs.DivisionMeaning.{top-lead}
-use Rattle.kernel.specs.Meaning.{DegreesIn, shape_tests}
 use Rattle.kernel.specs.Promises.{DivisionGiven}
-use Rattle.kernel.specs.Refusals.{unless, and_then, first-append, passed_of, first_of, ordered_numbered}
+use Rattle.kernel.specs.Refusals.{unless, and_then, first-append, passed_of, ordered_numbered}
 use Rattle.kernel.specs.Shape.{Known, ShapeOf}
 use Rattle.kernel.specs.SlotLaws.{Tested, tested}
 use Rattle.kernel.specs.SlotMeaning.{room_iff}
 use Rattle.kernel.specs.Slots.{degree_count, polynomial_of, filled, slots_table, slots_number, quotient_room, cleared}
-use Rattle.kernel.specs.declared.Shape.{Shape}
+use Rattle.kernel.specs.declared.shape.Shape.{Shape}
 use Rattle.kernel.specs.declared.Answer.{Answer}
 use Rattle.kernel.specs.declared.Answer.TheVariants.{Done, Refused}
+use Rattle.kernel.specs.declared.refusals.Refusal.{Refusal}
 use Rattle.polynomials.specs.Slots.{DivideReady, Parted}
 use Rattle.products.specs.Product.{work}
 use Rattle.residue.specs.Word.{num}
 use Rattle.algebra.specs.Test.{both_l, both_r, all_to_use, branch_yes}
-use Rattle.tower.proofs.Laws.{and_false_l, and_true_l}
+use Rattle.tower.proofs.Laws.{and_true_l}
 use Rattle.tower.specs.Form.{seg, copies, same, zero_words, one_words, degree_ok, coefficient_ok, form_over, is_in_form, slot_form}
 use Rattle.tower.specs.Heads.{one_head, one_head_lem}
 use Rattle.tower.specs.Levels.{degree, Tower}
@@ -41,12 +42,12 @@ use Rattle.tower.specs.Stands.{slot_stands}
 use Rattle.tower.specs.Store.{Kept, Put}
 use Rattle.tower.specs.Work.{product_work}
 use Rattle.tower.specs.Writing.{size, size-pos, size-zero, size_suc, tower_of, slot_long, unslot}
-use borrow.Author.Tests.{le-leb, lt-leb}
+use borrow.Author.Tests.{le-leb}
 use mir.Syntax.{w64}
 use mir.Val.{SFits, to_z, of_z}
 use mir.ValLaws.{to_z-of_z}
-use mathlib.Core.Path.{◌≡◌, sym, ap, ap₂, ◌∙◌, subst, subst₂, subst₃}
-use mathlib.Core.Bool.{Bool, true, false}
+use mathlib.Core.Path.{◌≡◌, refl, sym, ap, ap₂, ◌∙◌, subst₂, subst₃, subst}
+use mathlib.Core.Bool.{Bool, true}
 use mathlib.Core.List.{List, [], ◌∷◌}
 use Prim.Native.Nat.{ℕ, zero, suc, ◌+◌, ◌-◌, ◌*◌, ◌^◌, ◌<◌, ◌≤◌}
 use native.Mathlib.Nat.{suc-mul, mul-le-mul_right}
@@ -104,10 +105,6 @@ module _ (s : Shape) (p : ℕ) (b : List ℤ) (known : Known s) (allowed : slot_
   short = ((room_iff s.size (length b) (omega (arith, known.is-size, size-pos s.degrees s.levels))).0 (of_true _ allowed)).short
 
   module _ (c : ℕ) (ec : c ≡ degree_count b) where
-    -- zero is not monic
-    pub monic-zero : c ≡ 0 → false ≡ monic_words s.degrees s.levels s.size b
-    monic-zero z = and_false_l (leb 1 (degree_count b)) _ (lt-leb 1 (degree_count b) (omega arith))
-
     module _ (some : c ≡ 0 → ⊥) where
       -- there is a leading coefficient
       positive : 1 ≤ c
@@ -140,11 +137,6 @@ module _ (s : Shape) (p : ℕ) (b : List ℤ) (known : Known s) (allowed : slot_
             ∙ ap (λ m. monic_words s.degrees s.levels m b) (sym z)
 
 -- ---- the number
--- N and degrees in range get no number
-range_shape : (n : ℤ) (e : List ℤ) → DegreesIn n e → 0 ≡ shape_number n e
-unfolding shape_number
-range_shape n e r = sym (first_of (shape_table n e) (shape_tests n e r))
-
 module _ (p n : ℤ) (e t a b q v : List ℤ) where
   -- the test that is added to those of `slots`
   abbrev monic : Bool
@@ -162,43 +154,35 @@ module _ (p n : ℤ) (e t a b q v : List ℤ) where
       (ordered_numbered 1 (slots_table p n e t a b q v needed) (omega arith) tt)
 
   -- where no number is given every test has passed
-  division_tested : 0 ≡ division_number p n e t a b q v → Tested p n e t a b q v needed (monic_row n e b ∷ [])
+  division_tested : division_number p n e t a b q v ≡ 0 → Tested p n e t a b q v needed (monic_row n e b ∷ [])
   unfolding division_number
   division_tested h =
       tested p n e t a b q v needed (monic_row n e b ∷ [])
-      (passed_of (division_table p n e t a b q v) (ordered_numbered 1 (division_table p n e t a b q v) (omega arith) tt) (sym h))
+      (passed_of (division_table p n e t a b q v) (ordered_numbered 1 (division_table p n e t a b q v) (omega arith) tt) h)
 
-  module _ (r : ℕ) (er : r ≡ slots_number true p n e t a b q v) where
-    -- a number of the tests of `slots` stays
-    pub division-first : 0 < r → r ≡ division_number p n e t a b q v
-    division-first h = then_first (slots_number true p n e t a b q v) _ r er h ∙ sym division-is
+  -- a number of the tests of `slots` stays
+  pub division-first : (r : Refusal) → slots_number true p n e t a b q v ≡ number_of r → division_number p n e t a b q v ≡ number_of r
+  division-first r h = division-is ∙ then_first _ _ r h
 
-    module _ (h : r ≤ 0) where
-      -- else N and the degrees are in range
-      pub slots_shape : 0 ≡ shape_number n e
-      slots_shape = range_shape n e (slots_passed true p n e t a b q v (zero_of r h ∙ er)).tower.range.shape
+  module _ (h : slots_number true p n e t a b q v ≡ 0) (s : Shape) (is : ShapeOf n e s) where
+    -- the divisor is a slot in form
+    pub monic-ready : (m : ℕ) → m ≡ num p → Known s × (slot_length s.size (length b) ≡ true)
+        × (slot_form m s.degrees s.levels (slot_count s.size (length b)) b ≡ true)
+    monic-ready m em =
+        let g = slots_passed true p n e t a b q v h in (
+          is.known,
+          sym (length-found is b _ refl) ∙ to_true _ g.long_b,
+          sym (form-found is p m em b _ refl) ∙ to_true _ g.form_b,
+        )
 
-      module _ (s : Shape) (is : ShapeOf n e s) (m : ℕ) (em : m ≡ num p) where
-        -- the divisor is a slot in form
-        pub monic-ready : Known s × (slot_length s.size (length b) ≡ true)
-            × (slot_form m s.degrees s.levels (slot_count s.size (length b)) b ≡ true)
-        monic-ready =
-            let g = slots_passed true p n e t a b q v (zero_of r h ∙ er) in
-            let z = size-found p n e s is m em in (
-              is.known,
-              ap (λ x. slot_length x (length b)) z ∙ to_true _ g.long_b,
-              (λ i. slot_form (em i) (is.degrees i) (is.levels i) (slot_count (z i) (length b)) b) ∙ to_true _ g.form_b,
-            )
-
-        -- the number is that of the monic test
-        pub division_end : (x : Bool) → x ≡ monic_words s.degrees s.levels s.size b → unless x 8 0 ≡ division_number p n e t a b q v
-        division_end x ex =
-            let z = size-found p n e s is m em in
-            let same : x ≡ monic = ex ∙ λ i. monic_words (is.degrees i) (is.levels i) (z i) b in
-            then_next (slots_number true p n e t a b q v) (unless monic 8 0) r (unless x 8 0) er h (ap (λ y. unless y 8 0) same) ∙ sym division-is
+    -- the number is that of the monic test
+    pub division_end : (x : Bool) → x ≡ monic_words s.degrees s.levels s.size b → division_number p n e t a b q v ≡ unless x 8 0
+    division_end x ex =
+        let same : x ≡ monic = ex ∙ λ i. monic_words (is.degrees i) (is.levels i) (size-found is i) b in
+        division-is ∙ then_next _ _ _ h (ap (λ y. unless y 8 0) (sym same))
 
 -- ---- the promise
-module _ (p n : ℤ) (e t a b q v : List ℤ) (r : ℕ) (er : r ≡ division_number p n e t a b q v) where
+module _ (p n : ℤ) (e t a b q v : List ℤ) where
   -- the words as found
   abbrev old : DivisionWords
   old = record { remainder = a; quotient = q; work = v }
@@ -212,16 +196,16 @@ module _ (p n : ℤ) (e t a b q v : List ℤ) (r : ℕ) (er : r ≡ division_num
   }
 
   -- the promise, when refused
-  pub division_refused : 0 < r → DivisionGiven p n e t a b q v (Refused r) a q v
-  division_refused h =
-      let c = refused_by (division_number p n e t a b q v) r new old er h in
+  pub division_refused : (r : Refusal) → division_number p n e t a b q v ≡ number_of r → DivisionGiven p n e t a b q v (Refused (number_of r)) a q v
+  division_refused r h =
+      let c = refused_by (division_number p n e t a b q v) r new old h in
       record { answer = c.0; remainder = ap (λ w. w.remainder) c.1; quotient = ap (λ w. w.quotient) c.1; work = ap (λ w. w.work) c.1 }
 
   -- the promise, after Done
-  division_done : r ≤ 0 → (a' q' v' : List ℤ) → a' ≡ remainder_words p n e t a b → q' ≡ quotient_words p n e t a b q
+  division_done : division_number p n e t a b q v ≡ 0 → (a' q' v' : List ℤ) → a' ≡ remainder_words p n e t a b → q' ≡ quotient_words p n e t a b q
       → v' ≡ cleared (product_work (degrees_of e) (num n)) v → DivisionGiven p n e t a b q v Done a' q' v'
   division_done h a' q' v' ea eq ev =
-      let c = done_by (division_number p n e t a b q v) r new old er h in
+      let c = done_by (division_number p n e t a b q v) new old h in
       record {
         answer = c.0;
         remainder = ea ∙ ap (λ w. w.remainder) c.1;
@@ -283,14 +267,10 @@ module _ (p n : ℤ) (e t a b q v : List ℤ) (g : Tested p n e t a b q v (quoti
         ∙ sym (branch_yes (p_ok p) (λ m. filled p n e q (quotient_of p n e t a b m)) (λ _. q) modulus)
 
 -- ---- the same with the values that the calls gave
-module _ (p n : ℤ) (e t a b q v : List ℤ) (r : ℕ) (er : r ≡ division_number p n e t a b q v) (h : r ≤ 0) where
+module _ (p n : ℤ) (e t a b q v : List ℤ) (h : division_number p n e t a b q v ≡ 0) where
   -- every test has passed
   tests : Tested p n e t a b q v (quotient_room (degree_count a) (degree_count b)) (monic_row n e b ∷ [])
-  tests = division_tested p n e t a b q v (zero_of r h ∙ er)
-
-  -- N and the degrees are in range
-  pub division-shape : 0 ≡ shape_number n e
-  division-shape = range_shape n e tests.tower.range.shape
+  tests = division_tested p n e t a b q v h
 
   -- the two slots have degree words
   pub some_a : 0 < length a
@@ -329,10 +309,10 @@ module _ (p n : ℤ) (e t a b q v : List ℤ) (r : ℕ) (er : r ≡ division_num
         (el : l ≡ slot_count s.size (length q)) where
       -- the values are those of the specification
       count_a : k ≡ coefficients_of n e a
-      count_a = ek ∙ ap (λ x. slot_count x (length a)) (size-found p n e s is m em)
+      count_a = ek ∙ ap (λ x. slot_count x (length a)) (size-found is)
 
       count-q : l ≡ coefficients_of n e q
-      count-q = el ∙ ap (λ x. slot_count x (length q)) (size-found p n e s is m em)
+      count-q = el ∙ ap (λ x. slot_count x (length q)) (size-found is)
 
       level-is : i ≡ num n
       level-is = ei ∙ is.levels
@@ -366,7 +346,7 @@ module _ (p n : ℤ) (e t a b q v : List ℤ) (r : ℕ) (er : r ≡ division_num
         -- the promise
         pub parted_done : (v' : List ℤ) → v' ≡ cleared (product_work (degrees_of e) (num n)) v → DivisionGiven p n e t a b q v Done a' q' v'
         parted_done v' ev =
-            division_done p n e t a b q v r er h a' q' v'
+            division_done p n e t a b q v h a' q' v'
             (left_is p n e t a b q v tests a' q' w w' plain)
             (quotient_is p n e t a b q v tests a' q' w w' plain)
             ev

@@ -2,27 +2,27 @@
 --
 -- elements_copied == elements that are copied
 -- gcd_refused     == the call with a number
--- gcd-shape, slots_some, few_counts == with none N and the degrees are in range, the slots have words, and the degree words count few
+-- slots_some, few_counts == with none the slots have words, and the degree words count few
 -- g-length, f-length == the lengths of the slots and of the factor buffer
 -- A, by, given       == the sequence's answer, and the call by it
 -- few_words, a_inside, b_inside == the words that are copied into the work store;  find_ready == then the sequence may run
 -- sought_done            == what it leaves;  Sought, sought == what it came to
--- sought-plain, gcd-plain == the same of the numbers before they went through a call
-use Rattle.kernel.proofs.Order.{zero_then}
-use Rattle.kernel.proofs.Seeking.{gcd-number-is, needed-found}
-use Rattle.kernel.proofs.Told.{handed_back}
-use Rattle.kernel.proofs.Shapes.{size-found, tower-zero}
+-- gcd-plain              == the same of the numbers before they went through a call
+use Rattle.kernel.proofs.Order.{number_some}
+use Rattle.kernel.proofs.Seeking.{needed-found}
+use Rattle.kernel.proofs.Shapes.{size-found}
 use Rattle.kernel.proofs.Slotting.{cleared_by, allowed_long, count_low, count-words, held-length, held_stands, held-modulus, held-positive}
 use Rattle.kernel.specs.Answered.{tower_in, level_of}
-use Rattle.kernel.specs.Answers.{said}
-use Rattle.kernel.specs.Calls.{size_of, coefficients_of, length_ok, form_ok, shape_number, tower_number}
+use Rattle.kernel.specs.Answers.{said, number_of}
+use Rattle.kernel.specs.Calls.{size_of, coefficients_of, length_ok, form_ok}
 use Rattle.kernel.specs.GcdAnswers.{GcdMeans, gcd_answer, gcd_sequence}
 use Rattle.kernel.specs.GcdMeaning.{gcd-passed, gcd_refused as refused-words}
 use Rattle.kernel.specs.Gcds.{gcd_needed, gcd_number, GcdWords, gcd_by}
 use Rattle.kernel.specs.Meaning.{TowerHeld}
 use Rattle.kernel.specs.Parts.{SoughtDone}
 use Rattle.kernel.specs.Shape.{ShapeOf}
-use Rattle.kernel.specs.declared.Shape.{Shape}
+use Rattle.kernel.specs.declared.refusals.Refusal.{Refusal}
+use Rattle.kernel.specs.declared.shape.Shape.{Shape}
 use Rattle.kernel.specs.Promises.{GcdGiven}
 use Rattle.kernel.specs.Refusals.{refused}
 use Rattle.kernel.specs.SlotLaws.{held_below, held-top, held_few, held-words}
@@ -35,7 +35,9 @@ use Rattle.euclid.specs.Gcd.{Made, nothing, gcd as gcd-of}
 use Rattle.euclid.specs.Steps.{gcd-same}
 use Rattle.euclid.specs.Towers.{Shown}
 use Rattle.sequences.specs.Gcds.{Sited, Polynomial, GcdReady, GcdDone, Finds}
-use Rattle.sequences.specs.declared.Found.{Found}
+use Rattle.sequences.specs.declared.Greatest.{Greatest}
+use Rattle.sequences.specs.declared.Stop.{Stop}
+use Rattle.std.specs.Prelude.{Result}
 use Rattle.products.specs.Product.{Elements}
 use Rattle.arithmetic.specs.Rows.{block_inside}
 use Rattle.algebra.specs.Vec.{coef-trunc, trunc}
@@ -52,7 +54,7 @@ use Rattle.tower.specs.Writing.{size}
 use mir.Syntax.{w64}
 use mir.Val.{SFits, to_z, of_z}
 use mir.ValLaws.{to_z-of_z}
-use mathlib.Core.Path.{◌≡◌, refl, sym, ap, ◌∙◌, subst, subst₂, ap₂, subst₃}
+use mathlib.Core.Path.{◌≡◌, refl, sym, ap, ◌∙◌, subst, ap₂, subst₃, subst₂}
 use mathlib.Core.Bool.{false}
 use mathlib.Core.List.{List, [], ◌∷◌}
 use mathlib.Core.Logic.{inl, inr}
@@ -74,10 +76,11 @@ elements_copied p d i n u x y y' a b inside h put k l =
     ∙ h k l
 
 -- ---- with a number
-pub gcd_refused : (p n : ℤ) (e t a b g f v : List ℤ) (m : ℕ) → m ≡ gcd_number p n e t a b g f v → 0 < m → GcdGiven p n e t a b g f v (Refused m) g f v
-gcd_refused p n e t a b g f v m em h =
-    let one : m ≡ suc (m - 1) = omega arith in
-    let is = refused-words p n e t a b g f v (m - 1) (sym em ∙ one) in record {
+pub gcd_refused : (p n : ℤ) (e t a b g f v : List ℤ) (r : Refusal) → gcd_number p n e t a b g f v ≡ number_of r
+    → GcdGiven p n e t a b g f v (Refused (number_of r)) g f v
+gcd_refused p n e t a b g f v r h =
+    let one : number_of r ≡ suc (number_of r - 1) = omega (arith, number_some r) in
+    let is = refused-words p n e t a b g f v (number_of r - 1) (h ∙ one) in record {
       answer = ap refused one ∙ sym (ap (λ x. x.said) is);
       words = sym (ap (λ x. x.words.gcd) is);
       factor = sym (ap (λ x. x.words.factor) is);
@@ -106,9 +109,6 @@ module _ (p n : ℤ) (e t a b g f v : List ℤ) (passed : gcd_number p n e t a b
 
   abbrev θ : Tower (num p) (degrees_of e) (num n)
   θ = tower_in p n e t M
-
-  pub gcd-shape : 0 ≡ shape_number n e
-  gcd-shape = tower-zero p n e t 0 (zero_then (tower_number p n e t) _ (sym passed ∙ gcd-number-is p n e t a b g f v)) (omega arith)
 
   -- the slots and the factor buffer
   long_a : T (length_ok n e a)
@@ -252,7 +252,7 @@ module _ (p n : ℤ) (e t a b g f v : List ℤ) (passed : gcd_number p n e t a b
         right = right;
       }
 
-      module _ (w : List ℤ) (o : Found) (D : GcdDone (num n) d (num p) t false 0 1 unit (degree_count a) row (unit + S) (degree_count b) v₂ w (unit + 2 * S) o) where
+      module _ (w : List ℤ) (o : Result Greatest Stop) (D : GcdDone (num n) d (num p) t false 0 1 unit (degree_count a) row (unit + S) (degree_count b) v₂ w (unit + 2 * S) o) where
         found_plain : Finds (num p) p_pos d (num n) θ A o w (unit + 2 * S)
         found_plain =
             subst (λ X. Finds (num p) p_pos d (num n) θ X o w (unit + 2 * S)) started
@@ -270,7 +270,7 @@ module _ (p n : ℤ) (e t a b g f v : List ℤ) (passed : gcd_number p n e t a b
     pub s : Shape
     pub is : ShapeOf n e s
     pub w : List ℤ
-    pub o : Found
+    pub o : Result Greatest Stop
     pub top : ℕ
     pub c : ℕ
     pub found : Finds (num p) p_pos d (num n) θ A o w top
@@ -280,16 +280,16 @@ module _ (p n : ℤ) (e t a b g f v : List ℤ) (passed : gcd_number p n e t a b
   -- few words of a and b are copied
   pub few_words : (s : Shape) → ShapeOf n e s → (j k : ℕ) → j ≡ degree_count a → k ≡ degree_count b → (j * s.size ≤ 2 ^ 31) × (k * s.size ≤ 2 ^ 31)
   few_words s is j k ej ek =
-      let size_of_lem = size-found p n e s is (num p) refl in (
+      let size_of_lem = size-found is in (
         omega (arith, ap₂ ◌*◌ ej size_of_lem, count-words p n e a M long_a form_a τ.range.shape.few),
         omega (arith, ap₂ ◌*◌ ek size_of_lem, count-words p n e b M long_b form_b τ.range.shape.few),
       )
 
   -- `first` is the place behind the copy of a, and `unit` that of the two inverses
-  module _ (s : Shape) (is : ShapeOf n e s) (q : ℕ) (eq : q ≡ num p) (j k : ℕ) (ej : j ≡ degree_count a) (ek : k ≡ degree_count b)
+  module _ (s : Shape) (is : ShapeOf n e s) (j k : ℕ) (ej : j ≡ degree_count a) (ek : k ≡ degree_count b)
       (first : ℕ) (e-first : first ≡ 0 + 1 + j * s.size) (unit : ℕ) (e_unit : unit ≡ first + 1 - 1 + 1 + k * s.size) where
     size_of_lem : s.size ≡ S
-    size_of_lem = size-found p n e s is q eq
+    size_of_lem = size-found is
 
     a_words : j * s.size ≡ degree_count a * S
     a_words = ap₂ ◌*◌ ej size_of_lem
@@ -320,8 +320,8 @@ module _ (p n : ℤ) (e t a b g f v : List ℤ) (passed : gcd_number p n e t a b
         copied_b : Put (first + 1) (seg 1 (degree_count b * S) b) v₁ v₂
         copied_b = subst (λ l. Put (first + 1) (seg 1 l b) v₁ v₂) b_words put_b
 
-        pub find_ready : GcdReady s.levels s.degrees s.sizes q t false 0 1 unit j (first + 1) (unit + s.size) k v₂ (unit + 2 * s.size)
-        find_ready =
+        pub find_ready : (q : ℕ) → q ≡ num p → GcdReady s.levels s.degrees s.sizes q t false 0 1 unit j (first + 1) (unit + s.size) k v₂ (unit + 2 * s.size)
+        find_ready q eq =
             subst₃ (λ i x y. GcdReady i x s.sizes y t false 0 1 unit j (first + 1) (unit + s.size) k v₂ (unit + 2 * s.size))
             (sym is.levels) (sym is.degrees) (sym eq)
             (subst₃ (λ x y l. GcdReady (num n) d s.sizes (num p) t false 0 1 unit x (first + 1) (unit + l) y v₂ (unit + 2 * l)) (sym ej) (sym ek) (sym size_of_lem)
@@ -329,7 +329,7 @@ module _ (p n : ℤ) (e t a b g f v : List ℤ) (passed : gcd_number p n e t a b
             (subst (λ x. Sized x s.sizes) is.degrees is.known.sized) (omega (arith, is.levels, is.known.low))))
 
         -- the sequence has run
-        module _ (w : List ℤ) (o : Found)
+        module _ (q : ℕ) (eq : q ≡ num p) (w : List ℤ) (o : Result Greatest Stop)
             (D : GcdDone s.levels s.degrees q t false 0 1 unit j (first + 1) (unit + s.size) k v₂ w (unit + 2 * s.size) o) where
           done_plain : GcdDone (num n) d (num p) t false 0 1 unit (degree_count a) (first + 1) (unit + S) (degree_count b) v₂ w (unit + 2 * S) o
           done_plain =
@@ -349,7 +349,7 @@ module _ (p n : ℤ) (e t a b g f v : List ℤ) (passed : gcd_number p n e t a b
           }
 
   -- it has run, and c work words are to be cleared
-  module _ (s : Shape) (is : ShapeOf n e s) (w : List ℤ) (o : Found) (D : SoughtDone p n e t a b v w o)
+  module _ (s : Shape) (is : ShapeOf n e s) (w : List ℤ) (o : Result Greatest Stop) (D : SoughtDone p n e t a b v w o)
       (c : ℕ) (ec : c ≡ degree_count a * s.size + 1 + (degree_count b * s.size + 1) + 2 * s.size + inverse_work s.degrees s.levels) where
     pub is_found : Finds (num p) p_pos d (num n) θ A o w D.top
     is_found =
@@ -358,7 +358,7 @@ module _ (p n : ℤ) (e t a b g f v : List ℤ) (passed : gcd_number p n e t a b
 
     pub is-cleared : (c ≤ length w) × ((v' : List ℤ) → Put 0 (copies c (pos 0 ∷ [])) w v' → v' ≡ cleared (gcd_needed n e a b) v)
     is-cleared =
-        let needs = needed-found p n e a b s is c ec in
+        let needs = needed-found is a b c ec in
         let more = held.more in (
           omega (arith, needs, more, D.kept.long),
           λ v' put. cleared_by (gcd_needed n e a b) c v w v' (omega (arith, needs)) (omega (arith, needs, more)) D.kept put ∙ ap (λ x. cleared x v) needs,
@@ -366,10 +366,6 @@ module _ (p n : ℤ) (e t a b g f v : List ℤ) (passed : gcd_number p n e t a b
 
     abbrev pub sought : Sought
     sought = record { s = s; is = is; w = w; o = o; top = D.top; c = c; found = is_found; inside = D.inside; clears = is-cleared }
-
-pub sought-plain : {p n : ℤ} {e t a b v w : List ℤ} {o : Found} → SFits w64 p → SFits w64 n
-    → SoughtDone (to_z w64 (of_z w64 p)) (to_z w64 (of_z w64 n)) e t a b v w o → SoughtDone p n e t a b v w o
-sought-plain {p} {n} {e} {t} {a} {b} {v} {w} {o} fp fn h = handed_back (λ x y. SoughtDone x y e t a b v w o) fp fn h
 
 pub gcd-plain : {p n : ℤ} {e t a b g f v : List ℤ} {r : CallAnswer} {g' f' v' : List ℤ} → SFits w64 p → SFits w64 n
     → GcdGiven (to_z w64 (of_z w64 p)) (to_z w64 (of_z w64 n)) e t a b g f v r g' f' v' → GcdGiven p n e t a b g f v r g' f' v'

@@ -1,31 +1,34 @@
 -- Laws of what a GCD gives, from what the sequence came to.
 --
--- fits_greatest, words_greatest, finish-ready == a GCD's words may be copied out, they are few, and g's slot may be ended behind them
--- copied_greatest, copied_divides, copied_never == what is copied out: a GCD, a factor, nothing
+-- slot_some == where a GCD was found there are a coefficient and a slot g
 -- found-ready, found_given == the answer's words may be copied out, and what the call gives then;  work-room == the words to be cleared
 use Rattle.kernel.proofs.Finding.{elements_copied, τ, M, held, A, given, g-length, f-length, Sought}
 use Rattle.kernel.proofs.Shapes.{size-found, level-size}
 use Rattle.kernel.proofs.Showing.{Shows, Gives, shows_level, shows_few, shows_buffer, finds_greatest, finds_divides, finds_never}
 use Rattle.kernel.proofs.Slotting.{put_whole}
+use Rattle.kernel.proofs.Viewing.{shape-some}
 use Rattle.kernel.specs.Answered.{factor_buffer, tower_in}
 use Rattle.kernel.specs.Calls.{size_of, coefficients_of}
 use Rattle.kernel.specs.GcdMeaning.{gcd_fits, made_below}
 use Rattle.kernel.specs.Gcds.{gcd_number}
 use Rattle.kernel.specs.Meaning.{ones}
-use Rattle.kernel.specs.Parts.{GreatestFits, FoundReady, FoundGiven}
+use Rattle.kernel.specs.Parts.{FoundReady, FoundGiven}
 use Rattle.kernel.specs.Promises.{GcdGiven}
 use Rattle.kernel.specs.Refusals.{factor}
 use Rattle.kernel.specs.Shape.{ShapeOf}
 use Rattle.kernel.specs.Slots.{top_ring}
 use Rattle.kernel.specs.declared.Answer.{Answer as CallAnswer}
 use Rattle.kernel.specs.declared.Answer.TheVariants.{Done, Factor, Refused}
-use Rattle.kernel.specs.declared.Shape.{Shape}
+use Rattle.kernel.specs.declared.shape.Shape.{Shape}
 use Rattle.euclid.specs.Answer.{Answer, done as done-with, shown, long}
 use Rattle.euclid.specs.Gcd.{Made, made_coefficients}
 use Rattle.euclid.specs.Towers.{Shown}
-use Rattle.sequences.specs.declared.Found.{Found}
-use Rattle.sequences.specs.declared.Found.TheVariants.{Greatest, Divides, Never}
-use Rattle.polynomials.specs.Slots.{FinishReady, Finished}
+use Rattle.sequences.specs.Gcds.{greatest}
+use Rattle.sequences.specs.declared.Greatest.{Greatest}
+use Rattle.sequences.specs.declared.Stop.{Stop}
+use Rattle.sequences.specs.declared.Stop.TheVariants.{Factor as FactorOf, Long}
+use Rattle.std.specs.Prelude.{Result, Ok, Err}
+use Rattle.polynomials.specs.Slots.{Finished}
 use Rattle.products.specs.Product.{Elements}
 use Rattle.algebra.specs.Vec.{Below, below_mono, coef, coef-trunc, trunc}
 use Rattle.residue.specs.Word.{num}
@@ -35,48 +38,20 @@ use Rattle.tower.specs.Limits.{p_ok, p_positive, degrees_of, slot_count}
 use Rattle.tower.specs.Stands.{Stands}
 use Rattle.tower.specs.Store.{Put}
 use Rattle.tower.specs.Writing.{size, write, slot, slot_long}
-use mathlib.Core.Path.{◌≡◌, refl, sym, ap, ap₂, ◌∙◌, subst, subst₂, subst₃}
+use mathlib.Core.Path.{◌≡◌, refl, sym, ap, ◌∙◌, subst, subst₂, subst₃}
 use mathlib.Core.List.{List, [], ◌∷◌}
 use mathlib.Core.Logic.{◌⊎◌, inl, inr}
 use Prim.Native.Nat.{ℕ, ◌+◌, ◌-◌, ◌*◌, ◌<◌, ◌≤◌}
-use native.Mathlib.Nat.{mul-le-mul_right}
 use native.Mathlib.Omega.{arith}
 use lib.IntN.{ℤ, pos}
 use lib.Dec.{T}
 use lib.ListN.{length, get_or}
 
--- ---- the answer's words copied out, by what the sequence found
-module _ (o : Found) (s : Shape) (v g f : List ℤ) where
-  -- a GCD of k coefficients at the place `at`
-  module _ (at k : ℕ) (u : o ≡ Greatest at k) where
-    pub fits_greatest : FoundReady o s v g f → GreatestFits at k s v g
-    fits_greatest h = subst (λ x. FoundReady x s v g f) u h
-
-    module _ (h : FoundReady o s v g f) where
-      pub words_greatest : 1 + k * s.size ≤ length g
-      words_greatest = let F = fits_greatest h in omega (arith, mul-le-mul_right s.size F.few, F.long)
-
-      module _ (many : ℕ) (em : many ≡ slot_count s.size (length g)) (g₁ : List ℤ) (put : Put 1 (seg at (k * s.size) v) g g₁) where
-        pub finish-ready : FinishReady s.levels many k (many - k) s.degrees s.sizes g₁
-        finish-ready =
-            let F = fits_greatest h in record {
-              low = F.known.low;
-              sized = F.known.sized;
-              fits = omega (arith, F.few, em);
-              inside = omega (arith, ap₂ ◌*◌ em (sym F.known.is-size), F.long, put.kept.long);
-            }
-
-        pub copied_greatest : (g₂ : List ℤ) → Finished s.levels many k (many - k) s.degrees g₁ g₂ → FoundGiven o s v g f Done g₂ f
-        copied_greatest g₂ F =
-            subst (λ x. FoundGiven x s v g f Done g₂ f) (sym u)
-            (refl, record { copied = g₁; put = put; ended = subst (λ m. Finished s.levels m k (m - k) s.degrees g₁ g₂) em F }, refl)
-
-  pub copied_divides : (l at : ℕ) → o ≡ Divides l at → (k : ℕ) → k ≡ get_or s.sizes l 0 → (f' : List ℤ) → f' ≡ factor_buffer f (seg at k v)
-      → FoundGiven o s v g f (Factor l) g f'
-  copied_divides l at u k ek f' ef = subst (λ x. FoundGiven x s v g f (Factor l) g f') (sym u) (refl, refl, ef ∙ ap (λ j. factor_buffer f (seg at j v)) ek)
-
-  pub copied_never : o ≡ Never → FoundGiven o s v g f (Refused 11) g f
-  copied_never u = subst (λ x. FoundGiven x s v g f (Refused 11) g f) (sym u) (refl, refl, refl)
+-- ---- the answer's words copied out
+pub slot_some : (o : Result Greatest Stop) (s : Shape) (v g f : List ℤ) (m : Greatest) → o ≡ Ok m → FoundReady o s v g f → (0 < s.size) × (0 < length g)
+slot_some o s v g f m u h =
+    let F = subst (λ x. FoundReady x s v g f) u h in
+    (shape-some s F.known, omega (arith, F.long))
 
 -- ---- what the call gives
 module _ {p n : ℤ} {e t a b g f v : List ℤ} {passed : gcd_number p n e t a b g f v ≡ 0} (R : Sought p n e t a b g f v passed) where
@@ -108,14 +83,14 @@ module _ {p n : ℤ} {e t a b g f v : List ℤ} {passed : gcd_number p n e t a b
   w = R.w
 
   size_of_lem : s.size ≡ S
-  size_of_lem = size-found p n e s is (num p) refl
+  size_of_lem = size-found is
 
   -- the words that are cleared are there
   pub work-room : R.c ≤ length w
   work-room = R.clears.0
 
   -- a GCD of l coefficients at the place `at`; g's slot has `many`
-  module _ (at l : ℕ) (u : R.o ≡ Greatest at l) where
+  module _ (at l : ℕ) (u : R.o ≡ Ok (greatest at l)) where
     gives : Gives (num p) p_pos d (num n) θ w X at l × (at + l * S ≤ R.top)
     gives = finds_greatest (num p) p_pos d (num n) θ w R.top X R.o at l R.found u
 
@@ -178,7 +153,7 @@ module _ {p n : ℤ} {e t a b g f v : List ℤ} {passed : gcd_number p n e t a b
                 ∙ sym (slot_long (num p) d (num n) many (trunc many coefficients))) put-g
 
   -- a factor of the level l at the place `at`
-  module _ (l at : ℕ) (u : R.o ≡ Divides l at) where
+  module _ (l at : ℕ) (u : R.o ≡ Err (FactorOf l at)) where
     shows : Shows (num p) p_pos d (num n) θ w X l at × (at + size d l ≤ R.top)
     shows = finds_divides (num p) p_pos d (num n) θ w R.top X R.o l at R.found u
 
@@ -187,7 +162,7 @@ module _ {p n : ℤ} {e t a b g f v : List ℤ} {passed : gcd_number p n e t a b
 
     module _ (x : ℕ) (ex : x ≡ get_or s.sizes l 0) where
       words_are : x ≡ size d l
-      words_are = level-size p n e s is (num p) refl l (omega (arith, divides_level)) x ex
+      words_are = level-size is l (omega (arith, divides_level)) x ex
 
       divides_room : (at + x ≤ length w) × (x ≤ length f)
       divides_room = (
@@ -206,30 +181,30 @@ module _ {p n : ℤ} {e t a b g f v : List ℤ} {passed : gcd_number p n e t a b
           given p n e t a b g f v passed (shown shows.0.factor) shows.0.is (Factor l) g f' v' (ap factor shows.0.level-is) refl
           (shows_buffer (num p) p_pos d (num n) θ w l at shows.0 x words_are f f' ef) (R.clears.1 v' put)
 
-  never_given : R.o ≡ Never → (v' : List ℤ) → Put 0 (copies R.c (pos 0 ∷ [])) w v' → GcdGiven p n e t a b g f v (Refused 11) g f v'
+  never_given : R.o ≡ Err Long → (v' : List ℤ) → Put 0 (copies R.c (pos 0 ∷ [])) w v' → GcdGiven p n e t a b g f v (Refused 11) g f v'
   never_given u v' put =
       given p n e t a b g f v passed long (finds_never (num p) p_pos d (num n) θ w R.top X R.o R.found u) (Refused 11) g f v' refl refl refl (R.clears.1 v' put)
 
   -- by what was found: its words may be copied out, and what the call gives then
-  ready_by : (x : Found) → R.o ≡ x → FoundReady x s w g f
-  ready_by (Greatest at l) u = record {
+  ready_by : (x : Result Greatest Stop) → R.o ≡ x → FoundReady x s w g f
+  ready_by (Ok m) u = record {
     known = is.known;
-    inside = greatest_inside at l u;
-    few = greatest_few at l u (slot_count s.size (length g)) refl;
+    inside = greatest_inside m.at m.count u;
+    few = greatest_few m.at m.count u (slot_count s.size (length g)) refl;
     long = subst (λ x. 1 + slot_count x (length g) * x ≡ length g) (sym size_of_lem) (g-length p n e t a b g f v passed);
     short = (held p n e t a b g f v passed).slots.long.1.1.0.short;
   }
-  ready_by (Divides l at) u = let room = divides_room l at u (get_or s.sizes l 0) refl in (divides_level l at u, room.0, room.1)
-  ready_by Never u = tt
+  ready_by (Err (FactorOf l at)) u = let room = divides_room l at u (get_or s.sizes l 0) refl in (divides_level l at u, room.0, room.1)
+  ready_by (Err Long) u = tt
 
-  given_by : (x : Found) → R.o ≡ x → (r : CallAnswer) (g' f' : List ℤ) → FoundGiven x s w g f r g' f'
+  given_by : (x : Result Greatest Stop) → R.o ≡ x → (r : CallAnswer) (g' f' : List ℤ) → FoundGiven x s w g f r g' f'
       → (v' : List ℤ) → Put 0 (copies R.c (pos 0 ∷ [])) w v' → GcdGiven p n e t a b g f v r g' f' v'
-  given_by (Greatest at l) u r g' f' (er, G, ef) v' clear =
+  given_by (Ok m) u r g' f' (er, G, ef) v' clear =
       subst₂ (λ x y. GcdGiven p n e t a b g f v x g' y v') (sym er) (sym ef)
-      (greatest_given at l u (slot_count s.size (length g)) refl G.copied G.put g' G.ended v' clear)
-  given_by (Divides l at) u r g' f' (er, eg, ef) v' clear =
+      (greatest_given m.at m.count u (slot_count s.size (length g)) refl G.copied G.put g' G.ended v' clear)
+  given_by (Err (FactorOf l at)) u r g' f' (eg, (er, ef)) v' clear =
       subst₂ (λ x y. GcdGiven p n e t a b g f v x y f' v') (sym er) (sym eg) (divides_given l at u (get_or s.sizes l 0) refl f' ef v' clear)
-  given_by Never u r g' f' (er, eg, ef) v' clear = subst₃ (λ x y z. GcdGiven p n e t a b g f v x y z v') (sym er) (sym eg) (sym ef) (never_given u v' clear)
+  given_by (Err Long) u r g' f' (eg, (er, ef)) v' clear = subst₃ (λ x y z. GcdGiven p n e t a b g f v x y z v') (sym er) (sym eg) (sym ef) (never_given u v' clear)
 
   pub found-ready : FoundReady R.o s w g f
   found-ready = ready_by R.o refl

@@ -1,36 +1,34 @@
 -- Laws of the inverse of an element.
 --
 -- inverse-first .. inverse_end == the number, test by test, with the values that the calls gave;  element_inside == the words of c are an element's
--- inverse_refused, inverse-shape == the call with a number;  with none N and the degrees are in range
 -- A, inverse_done, inverse_shown, inverse_endless == the sequence's answer, and the call by it, once its words are copied out
 -- run-ready, store-room, lent-some == with none: the sequence may run, in the work store, and r and f have words;  work-nothing == level 0 needs no work words
 -- number_done, number_shown, number_long == what the call gives at level 0;  Worked, worked == what the sequence came to above it
--- inverse-plain                == the same of the numbers before they went through a call
-use Rattle.kernel.proofs.Order.{then_first, then_next, zero_then, seg_all}
+use Rattle.kernel.proofs.Order.{then_first, then_next, seg_all}
 use Rattle.kernel.proofs.Showing.{Inverts, Shows, shows_buffer, shows_level, came_done, came_shown, came_long}
-use Rattle.kernel.proofs.Shapes.{size-found, tower-zero}
+use Rattle.kernel.proofs.Shapes.{size-found, level-size}
 use Rattle.kernel.proofs.Slotting.{put_whole, cleared_by, held-length, held_stands, held-modulus, held-positive, cleared-nothing}
 use Rattle.kernel.proofs.Viewing.{and_split}
 use Rattle.kernel.specs.Answered.{factor_buffer, tower_in}
-use Rattle.kernel.specs.Answers.{said}
-use Rattle.kernel.specs.Calls.{size_of, shape_number, tower_number}
+use Rattle.kernel.specs.Answers.{said, number_of}
+use Rattle.kernel.specs.Calls.{size_of, tower_number}
 use Rattle.kernel.specs.InverseAnswers.{InverseHeld, inverse-says, inverse_answer, inverse_sequence, inverse_not_zero, element-is}
-use Rattle.kernel.specs.InverseMeaning.{inverse_refused as refused-words}
 use Rattle.kernel.specs.Inverses.{element_length, inverse_number, element_of, InverseWords, inverse_by}
 use Rattle.kernel.specs.Meaning.{TowerHeld, tower_behind}
 use Rattle.kernel.specs.Promises.{InverseGiven}
-use Rattle.kernel.specs.Refusals.{factor, refused, unless, and_then}
+use Rattle.kernel.specs.Refusals.{factor, unless, and_then}
 use Rattle.kernel.specs.Shape.{ShapeOf}
 use Rattle.kernel.specs.Slots.{cleared, Changed}
 use Rattle.kernel.specs.declared.Answer.{Answer as CallAnswer}
 use Rattle.kernel.specs.declared.Answer.TheVariants.{Done, Factor, Refused}
-use Rattle.kernel.specs.declared.Shape.{Shape}
+use Rattle.kernel.specs.declared.refusals.Refusal.{Refusal}
+use Rattle.kernel.specs.declared.shape.Shape.{Shape}
 use Rattle.euclid.specs.Answer.{Answer, done as done-with, shown, long}
 use Rattle.euclid.specs.Towers.{Shown}
 use Rattle.sequences.specs.Outcomes.{Came, Reached, RunReady, RunDone, InvertDone}
-use Rattle.sequences.specs.declared.Outcome.{Outcome}
-use Rattle.sequences.specs.declared.Ended.{Ended}
-use Rattle.sequences.specs.declared.Outcome.TheVariants.{Done as Done₀, Factor as Factor₀, Long}
+use Rattle.sequences.specs.declared.Stop.{Stop}
+use Rattle.sequences.specs.declared.Stop.TheVariants.{Factor as FactorOf, Long}
+use Rattle.std.specs.Prelude.{Result, Ok, Err}
 use Rattle.residue.specs.Word.{num}
 use Rattle.tower.specs.Form.{eq_z, same, seg, copies, is_in_form, zero_words}
 use Rattle.tower.specs.Heads.{head_of, zero_head}
@@ -49,7 +47,7 @@ use mir.ValLaws.{to_z-of_z}
 use mathlib.Core.Path.{◌≡◌, refl, sym, ap, ap₂, ◌∙◌, subst, subst₂, subst₃}
 use mathlib.Core.Bool.{Bool, true, false, not, ◌&&◌}
 use mathlib.Core.List.{List, [], ◌∷◌}
-use Prim.Native.Nat.{ℕ, suc, ◌+◌, ◌-◌, ◌<◌, ◌≤◌}
+use Prim.Native.Nat.{ℕ, ◌+◌, ◌<◌, ◌≤◌}
 use native.Mathlib.Omega.{arith}
 use lib.IntN.{ℤ, pos}
 use lib.Dec.{T, eqb, leb}
@@ -78,70 +76,55 @@ module _ (p n : ℤ) (e t c r f v : List ℤ) where
   inverse-is = tower_behind p n e t ((4, λ _. lengths) ∷ (5, λ _. form) ∷ (7, λ _. store) ∷ (9, λ _. some) ∷ [])
 
   -- test by test, with the values that the calls gave
-  module _ (m : ℕ) (em : m ≡ tower_number p n e t) where
-    pub inverse-first : 0 < m → m ≡ inverse_number p n e t c r f v
-    inverse-first h = then_first (tower_number p n e t) _ m em h ∙ sym inverse-is
+  pub inverse-first : (k : Refusal) → tower_number p n e t ≡ number_of k → inverse_number p n e t c r f v ≡ number_of k
+  inverse-first k h = inverse-is ∙ then_first _ _ k h
 
-    inverse-rest : m ≤ 0 → (x y z w : Bool) → lengths ≡ x → form ≡ y → store ≡ z → some ≡ w → rest x y z w ≡ inverse_number p n e t c r f v
-    inverse-rest h x y z w i j k l =
-        then_next (tower_number p n e t) (rest lengths form store some) m (rest x y z w) em h (λ u. rest (sym i u) (sym j u) (sym k u) (sym l u)) ∙ sym inverse-is
+  module _ (h : tower_number p n e t ≡ 0) where
+    inverse-rest : (x y z w : Bool) → lengths ≡ x → form ≡ y → store ≡ z → some ≡ w → inverse_number p n e t c r f v ≡ rest x y z w
+    inverse-rest x y z w i j k l = inverse-is ∙ then_next _ _ _ h (λ u. rest (i u) (j u) (k u) (l u))
 
-    module _ (h : m ≤ 0) (s : Shape) (is : ShapeOf n e s) (x : Bool) (ex : x ≡ (eqb (length c) s.size && (eqb (length r) s.size && eqb (length f) s.size))) where
-      size_is : s.size ≡ size_of n e
-      size_is = size-found p n e s is (num p) refl
+    module _ (s : Shape) (is : ShapeOf n e s) where
+      lengths_told : (x : Bool) → x ≡ (eqb (length c) s.size && (eqb (length r) s.size && eqb (length f) s.size)) → lengths ≡ x
+      lengths_told x ex = sym (ex ∙ ap (λ k. eqb (length c) k && (eqb (length r) k && eqb (length f) k)) (size-found is))
 
-      lengths_told : lengths ≡ x
-      lengths_told = sym (ex ∙ ap (λ k. eqb (length c) k && (eqb (length r) k && eqb (length f) k)) size_is)
+      pub inverse_short : false ≡ (eqb (length c) s.size && (eqb (length r) s.size && eqb (length f) s.size)) → inverse_number p n e t c r f v ≡ 4
+      inverse_short g = inverse-rest false _ _ _ (lengths_told false g) refl refl refl
 
-      pub inverse_short : x ≡ false → 4 ≡ inverse_number p n e t c r f v
-      inverse_short g = inverse-rest h false _ _ _ (lengths_told ∙ g) refl refl refl
-
-      module _ (fx : x ≡ true) where
+      module _ (fx : true ≡ (eqb (length c) s.size && (eqb (length r) s.size && eqb (length f) s.size))) where
         c_long : length c ≡ s.size
-        c_long = eqb-true (length c) s.size (and_split (eqb (length c) s.size) _ (sym ex ∙ fx)).0
+        c_long = eqb-true (length c) s.size (and_split (eqb (length c) s.size) _ (sym fx)).0
 
         pub element_inside : size s.degrees s.levels ≡ length c
         element_inside = sym (c_long ∙ is.known.is-size)
 
-        module _ (q : ℕ) (eq : q ≡ num p) (y : Bool) (ey : y ≡ is_in_form q s.degrees s.levels (seg 0 (size s.degrees s.levels) c)) where
-          form_told : form ≡ y
-          form_told =
+        module _ (q : ℕ) (eq : q ≡ num p) where
+          form_told : (y : Bool) → y ≡ is_in_form q s.degrees s.levels (seg 0 (size s.degrees s.levels) c) → form ≡ y
+          form_told y ey =
               sym (ey
               ∙ ap (is_in_form q s.degrees s.levels) (seg_all (size s.degrees s.levels) c (sym element_inside))
               ∙ λ i. is_in_form (eq i) (is.degrees i) (is.levels i) c)
 
-          pub inverse_bad : y ≡ false → 5 ≡ inverse_number p n e t c r f v
-          inverse_bad g = inverse-rest h true false _ _ (lengths_told ∙ fx) (form_told ∙ g) refl refl
+          pub inverse_bad : false ≡ is_in_form q s.degrees s.levels (seg 0 (size s.degrees s.levels) c) → inverse_number p n e t c r f v ≡ 5
+          inverse_bad g = inverse-rest true false _ _ (lengths_told true fx) (form_told false g) refl refl
 
-          module _ (fy : y ≡ true) (k : ℕ) (ek : k ≡ inverse_work s.degrees s.levels) where
+          module _ (fy : true ≡ is_in_form q s.degrees s.levels (seg 0 (size s.degrees s.levels) c)) (k : ℕ) (ek : k ≡ inverse_work s.degrees s.levels) where
             store_told : store ≡ leb k (length v)
             store_told = sym (ap (λ u. leb u (length v)) (ek ∙ ap₂ inverse_work is.degrees is.levels))
 
-            pub inverse_few : length v < k → 7 ≡ inverse_number p n e t c r f v
-            inverse_few l = inverse-rest h true true false _ (lengths_told ∙ fx) (form_told ∙ fy) (store_told ∙ lt-leb k (length v) l) refl
+            pub inverse_few : length v < k → inverse_number p n e t c r f v ≡ 7
+            inverse_few l = inverse-rest true true false _ (lengths_told true fx) (form_told true fy) (store_told ∙ lt-leb k (length v) l) refl
 
             -- the first word tells whether c is zero
-            pub inverse_end : k ≤ length v → (b : Bool) → b ≡ eq_z (get_or c 0 (pos 0)) (head_of s.levels) → unless (not b) 9 0 ≡ inverse_number p n e t c r f v
+            pub inverse_end : k ≤ length v → (b : Bool) → b ≡ eq_z (get_or c 0 (pos 0)) (head_of s.levels) → inverse_number p n e t c r f v ≡ unless (not b) 9 0
             inverse_end l b eb =
-                inverse-rest h true true true (not b) (lengths_told ∙ fx) (form_told ∙ fy) (store_told ∙ le-leb k (length v) l)
+                inverse-rest true true true (not b) (lengths_told true fx) (form_told true fy) (store_told ∙ le-leb k (length v) l)
                 (ap not
-                (zero_head (num p) (degrees_of e) (num n) c (of_true _ (form_told ∙ fy)) ∙ ap (λ i. eq_z (get_or c 0 (pos 0)) (head_of i)) (sym is.levels) ∙ sym eb))
+                (zero_head (num p) (degrees_of e) (num n) c (of_true _ (form_told true fy)) ∙ ap (λ i. eq_z (get_or c 0 (pos 0)) (head_of i)) (sym is.levels) ∙ sym eb))
 
 -- at level 0 an inverse needs no work words
 pub work-nothing : (d : List ℕ) (i : ℕ) → i ≡ 0 → inverse_work d i ≡ 0
 unfolding inverse_work
 work-nothing d i z = rw z refl
-
--- ---- with a number
-pub inverse_refused : (p n : ℤ) (e t c r f v : List ℤ) (m : ℕ) → m ≡ inverse_number p n e t c r f v → 0 < m → InverseGiven p n e t c r f v (Refused m) r f v
-inverse_refused p n e t c r f v m em h =
-    let one : m ≡ suc (m - 1) = omega arith in
-    let is = refused-words p n e t c r f v (m - 1) (sym em ∙ one) in record {
-      answer = ap refused one ∙ sym (ap (λ x. x.said) is);
-      words = sym (ap (λ x. x.words.inverse) is);
-      factor = sym (ap (λ x. x.words.factor) is);
-      work = sym (ap (λ x. x.words.work) is);
-    }
 
 -- ---- with none
 module _ (p n : ℤ) (e t c r f v : List ℤ) (passed : inverse_number p n e t c r f v ≡ 0) where
@@ -162,9 +145,6 @@ module _ (p n : ℤ) (e t c r f v : List ℤ) (passed : inverse_number p n e t c
 
   abbrev θ : Tower (num p) d (num n)
   θ = tower_in p n e t M
-
-  pub inverse-shape : 0 ≡ shape_number n e
-  inverse-shape = tower-zero p n e t 0 (zero_then (tower_number p n e t) _ (sym passed ∙ inverse-is p n e t c r f v)) (omega arith)
 
   -- the lengths
   c-length : length c ≡ size_of n e
@@ -241,7 +221,7 @@ module _ (p n : ℤ) (e t c r f v : List ℤ) (passed : inverse_number p n e t c
     pub s : Shape
     pub is : ShapeOf n e s
     pub w : List ℤ
-    pub o : Ended
+    pub o : Result ℕ Stop
     pub k : ℕ
     pub reached : Reached (num p) p_pos d (num n) θ A o w 0
     pub inside : inverse_work d (num n) ≤ length w
@@ -249,7 +229,7 @@ module _ (p n : ℤ) (e t c r f v : List ℤ) (passed : inverse_number p n e t c
 
   module _ (s : Shape) (is : ShapeOf n e s) (q : ℕ) (eq : q ≡ num p) where
     size_of_lem : s.size ≡ size_of n e
-    size_of_lem = size-found p n e s is q eq
+    size_of_lem = size-found is
 
     pub run-ready : (i : ℕ) → i ≡ num n → (w : List ℤ) (top : ℕ) → top + inverse_work s.degrees i ≤ length w
         → RunReady i s.degrees s.sizes q t false 0 c false 0 w top
@@ -266,7 +246,7 @@ module _ (p n : ℤ) (e t c r f v : List ℤ) (passed : inverse_number p n e t c
     lent-some = (omega (arith, r-length, size-pos d (num n)), omega (arith, f-length, size-pos d (num n)))
 
     -- level 0: the answer is one word of its own, and no work words are needed
-    module _ (z : s.levels ≡ 0) (w w' : List ℤ) (o : Outcome) (g : InvertDone 0 s.degrees q t false 0 c false 0 w w' 0 1 o) where
+    module _ (z : s.levels ≡ 0) (w w' : List ℤ) (o : Result (Unit {0}) Stop) (g : InvertDone 0 s.degrees q t false 0 c false 0 w w' 0 1 o) where
       level-none : 0 ≡ num n
       level-none = sym z ∙ is.levels
 
@@ -278,21 +258,29 @@ module _ (p n : ℤ) (e t c r f v : List ℤ) (passed : inverse_number p n e t c
       work-kept : v ≡ cleared (inverse_work d (num n)) v
       work-kept = cleared-nothing (inverse_work d (num n)) v (work-nothing d (num n) (sym level-none))
 
-      pub number_done : o ≡ Done₀ → (r' : List ℤ) → Put 0 (seg 0 1 w') r r' → InverseGiven p n e t c r f v Done r' f v
+      pub number_done : o ≡ Ok tt → (r' : List ℤ) → Put 0 (seg 0 1 w') r r' → InverseGiven p n e t c r f v Done r' f v
       number_done u r' put =
           inverse_done w' v work-kept 0 1 (came_done (num p) p_pos d (num n) θ w' A o 0 came u) (sym (size-zero d) ∙ ap (size d) level-none) r' put
 
-      pub number_shown : (l : ℕ) → o ≡ Factor₀ l → (f' : List ℤ) → f' ≡ factor_buffer f (seg 0 1 w') → InverseGiven p n e t c r f v (Factor l) r f' v
-      number_shown l u f' ef =
-          let S = came_shown (num p) p_pos d (num n) θ w' A o 0 l came u in
-          let none : l ≡ 0 = omega (arith, shows_level (num p) p_pos d (num n) θ w' l 0 S, level-none) in
-          inverse_shown w' v work-kept l 0 1 S (sym (size-zero d) ∙ ap (size d) (sym none)) f' ef
+      -- a factor is a number: it has the level 0, and is the store's word
+      module _ (l at : ℕ) (u : o ≡ Err (FactorOf l at)) where
+        number_factor : Shows (num p) p_pos d (num n) θ w' A l at × (at ≡ 0)
+        number_factor = came_shown (num p) p_pos d (num n) θ w' A o 0 l at came u
 
-      pub number_long : o ≡ Long → InverseGiven p n e t c r f v (Refused 11) r f v
+        pub number_level : l ≡ 0
+        number_level = omega (arith, shows_level (num p) p_pos d (num n) θ w' l at number_factor.0, level-none)
+
+        pub number_word : (at ≡ 0) × (get_or s.sizes l 0 ≡ 1)
+        number_word = (number_factor.1, level-size is l (omega (arith, number_level)) _ refl ∙ ap (size d) number_level ∙ size-zero d)
+
+        pub number_shown : (f' : List ℤ) → f' ≡ factor_buffer f (seg at (get_or s.sizes l 0) w') → InverseGiven p n e t c r f v (Factor l) r f' v
+        number_shown f' ef = inverse_shown w' v work-kept l at _ number_factor.0 (level-size is l (omega (arith, number_level)) _ refl) f' ef
+
+      pub number_long : o ≡ Err Long → InverseGiven p n e t c r f v (Refused 11) r f v
       number_long u = inverse_endless w' v work-kept (came_long (num p) p_pos d (num n) θ w' A o 0 came u)
 
     -- a level above has run: w are the store's words, o what came of it
-    module _ (k : ℕ) (ek : k ≡ inverse_work s.degrees s.levels) (w : List ℤ) (o : Ended) (g : RunDone s.levels s.degrees q t false 0 c false 0 v w 0 o) where
+    module _ (k : ℕ) (ek : k ≡ inverse_work s.degrees s.levels) (w : List ℤ) (o : Result ℕ Stop) (g : RunDone s.levels s.degrees q t false 0 c false 0 v w 0 o) where
       work-is : k ≡ inverse_work d (num n)
       work-is = ek ∙ ap₂ inverse_work is.degrees is.levels
 

@@ -1,23 +1,23 @@
 -- Laws of product.
 --
 -- product_refused, product_done == what the call gives with a number, and with none
--- product_tested, product-shape, product-some == what is known where no number is given
+-- product_tested, product-some == what is known where no number is given
 -- multiply-ready == the core may multiply;  multiply-whole == what it leaves in c is the whole of the product's slot
--- product-plain  == the same of the numbers before they went through a call
-use Rattle.kernel.proofs.Order.{zero_of}
 use Rattle.kernel.proofs.Shapes.{size-found}
-use Rattle.kernel.proofs.Slotting.{slots_passed, slots_shape, slots_plain, shape_sized, shape-low, shape-work}
+use Rattle.kernel.proofs.Slotting.{slots_passed, slots_plain, shape_sized, shape-low, shape-work}
 use Rattle.kernel.proofs.Slotting.{tower_holds, a_holds, b_holds, a_long, c_long, count-words, put_whole}
 use Rattle.kernel.proofs.Summing.{refused_by, done_by}
-use Rattle.kernel.specs.Calls.{size_of, coefficients_of, shape_number}
+use Rattle.kernel.specs.Calls.{size_of, coefficients_of}
 use Rattle.kernel.specs.Products.{ProductWords, product_number, product_of, product_words}
 use Rattle.kernel.specs.Promises.{ProductGiven}
 use Rattle.kernel.specs.Shape.{ShapeOf}
 use Rattle.kernel.specs.SlotLaws.{Tested}
 use Rattle.kernel.specs.Slots.{product_room, degree_count, polynomial_of, slots_number, filled, cleared}
+use Rattle.kernel.specs.Answers.{number_of}
 use Rattle.kernel.specs.declared.Answer.{Answer}
 use Rattle.kernel.specs.declared.Answer.TheVariants.{Done, Refused}
-use Rattle.kernel.specs.declared.Shape.{Shape}
+use Rattle.kernel.specs.declared.refusals.Refusal.{Refusal}
+use Rattle.kernel.specs.declared.shape.Shape.{Shape}
 use Rattle.algebra.specs.Test.{branch_yes}
 use Rattle.polynomials.specs.Slots.{product_count, MultiplyReady, Multiplied}
 use Rattle.products.specs.Product.{work}
@@ -29,7 +29,7 @@ use Rattle.tower.specs.Writing.{size, tower_of, slot_long}
 use mir.Syntax.{w64}
 use mir.Val.{SFits, to_z, of_z}
 use mir.ValLaws.{to_z-of_z}
-use mathlib.Core.Path.{◌≡◌, sym, ap, ◌∙◌, subst, subst₂, subst₃}
+use mathlib.Core.Path.{◌≡◌, refl, sym, ap, ◌∙◌, subst, subst₃, subst₂}
 use mathlib.Core.Bool.{false}
 use mathlib.Core.List.{List, []}
 use Prim.Native.Nat.{ℕ, zero, suc, ◌+◌, ◌*◌, ◌^◌, ◌<◌, ◌≤◌}
@@ -43,11 +43,11 @@ count_fits zero l m h = omega arith
 count_fits (suc k) zero m h = omega arith
 count_fits (suc k) (suc l) m h = omega arith
 
-module _ (p n : ℤ) (e t a b c v : List ℤ) (r : ℕ) (er : r ≡ slots_number false p n e t a b c v) where
+module _ (p n : ℤ) (e t a b c v : List ℤ) where
   -- the number of a product is that of the tests that it shares with a division
-  number_is : r ≡ product_number p n e t a b c v
+  number_is : product_number p n e t a b c v ≡ slots_number false p n e t a b c v
   unfolding slots_number product_number
-  number_is = er
+  number_is = refl
 
   -- the words after Done, and as they were found
   abbrev after : ProductWords
@@ -56,22 +56,19 @@ module _ (p n : ℤ) (e t a b c v : List ℤ) (r : ℕ) (er : r ≡ slots_number
   abbrev found : ProductWords
   found = record { product = c; work = v }
 
-  pub product_refused : 0 < r → ProductGiven p n e t a b c v (Refused r) c v
-  product_refused h =
-      let q = refused_by (product_number p n e t a b c v) r after found number_is h in
+  pub product_refused : (r : Refusal) → slots_number false p n e t a b c v ≡ number_of r → ProductGiven p n e t a b c v (Refused (number_of r)) c v
+  product_refused r h =
+      let q = refused_by (product_number p n e t a b c v) r after found (number_is ∙ h) in
       record { answer = q.0; words = ap (λ w. w.product) q.1; work = ap (λ w. w.work) q.1 }
 
-  module _ (h : r ≤ 0) where
+  module _ (h : slots_number false p n e t a b c v ≡ 0) where
     pub product_done : (c' v' : List ℤ) → c' ≡ product_words p n e t a b c → v' ≡ cleared (product_work (degrees_of e) (num n)) v → ProductGiven p n e t a b c v Done c' v'
     product_done c' v' ec ev =
-        let q = done_by (product_number p n e t a b c v) r after found number_is h in
+        let q = done_by (product_number p n e t a b c v) after found (number_is ∙ h) in
         record { answer = q.0; words = ec ∙ ap (λ w. w.product) q.1; work = ev ∙ ap (λ w. w.work) q.1 }
 
-    pub product-shape : 0 ≡ shape_number n e
-    product-shape = slots_shape false p n e t a b c v (zero_of r h ∙ er)
-
     pub product_tested : Tested p n e t a b c v (product_room (degree_count a) (degree_count b)) []
-    product_tested = slots_passed false p n e t a b c v (zero_of r h ∙ er)
+    product_tested = slots_passed false p n e t a b c v h
 
     pub product-some : 0 < length c
     product-some = omega (arith, c_long p n e t a b c v _ [] product_tested)
@@ -109,7 +106,7 @@ module _ (p n : ℤ) (e t a b c v : List ℤ) (r : ℕ) (er : r ≡ slots_number
     -- with the values that the calls gave, at the level i
     module _ (s : Shape) (is : ShapeOf n e s) (q : ℕ) (eq : q ≡ num p) (k : ℕ) (ek : k ≡ slot_count s.size (length c)) (i : ℕ) (ei : i ≡ num n) where
       count-is : k ≡ coefficients_of n e c
-      count-is = ek ∙ ap (λ m. slot_count m (length c)) (size-found p n e s is q eq)
+      count-is = ek ∙ ap (λ m. slot_count m (length c)) (size-found is)
 
       pub multiply-ready : (w : List ℤ) → size s.degrees i + work s.degrees i ≤ length w → MultiplyReady i k s.degrees s.sizes q t a b c w
       multiply-ready w room =

@@ -1,16 +1,19 @@
 -- Laws of the calls: from the numbers to what is known after them.
 use Rattle.kernel.proofs.Range.{small_of, levels_low}
-use Rattle.kernel.specs.Calls.{size_of, tower_row, shape_table, base_table, shape_number, base_number, tower_number, slot_number}
-use Rattle.kernel.specs.Refusals.{refused, refusal, Numbered, first-append, unless, and_then, passed_of}
+use Rattle.kernel.specs.Answers.{number_of}
+use Rattle.kernel.specs.Calls.{length_ok, form_ok, tower_row, shape_table, base_table, shape_number, base_number, tower_number, slot_number}
+use Rattle.kernel.specs.Refusals.{Numbered, first-append, unless, and_then, passed_of}
+use Rattle.kernel.specs.declared.refusals.Refusal.{Refusal}
+use Rattle.kernel.specs.declared.refusals.Refusal.TheVariants.{BadModulus, BadDegrees, BadTower, BadLength, BadForm, SmallAnswer, SmallWork, NotMonic, OfZero, NoResidue, TooLong}
 use Rattle.kernel.specs.SlotMeaning.{slot_is}
 use Rattle.residue.specs.Word.{num}
-use Rattle.tower.specs.Form.{seg, tower_form, slot_form}
-use Rattle.tower.specs.Limits.{p_ok, degrees_of, levels_ok, degrees_ok, slot_count, slot_length}
+use Rattle.tower.specs.Form.{seg, tower_form}
+use Rattle.tower.specs.Limits.{p_ok, degrees_of, levels_ok, degrees_ok}
 use Rattle.tower.specs.Lists.{to_true, of_true}
 use Rattle.tower.specs.Ready.{Small}
 use Rattle.tower.specs.Writing.{size}
-use mathlib.Core.Path.{◌≡◌, refl, sym, ap, ap₂, ◌∙◌}
-use mathlib.Core.Bool.{Bool, true, false}
+use mathlib.Core.Path.{◌≡◌, refl, ap, ap₂, ◌∙◌}
+use mathlib.Core.Bool.{Bool, true}
 use mathlib.Core.List.{List, [], ◌∷◌}
 use Prim.Native.Nat.{ℕ, zero, suc, ◌<◌, ◌≤◌}
 use native.Mathlib.Nat.{lt_irrefl}
@@ -41,22 +44,11 @@ pub record Passed (n : ℤ) (e : List ℤ) : Type 0 where
   pub degrees : degrees_ok (num n) e ≡ true
   pub few : leb (size (degrees_of e) (num n)) 2048 ≡ true
 
-pub zero_of : (r : ℕ) → r ≤ 0 → 0 ≡ r
-zero_of r h = omega arith
-
-pub shape-passed : (n : ℤ) (e : List ℤ) → 0 ≡ shape_number n e → Passed n e
+pub shape-passed : (n : ℤ) (e : List ℤ) → shape_number n e ≡ 0 → Passed n e
 unfolding shape_number
 shape-passed n e h =
-    let x = passed_of (shape_table n e) (shape_numbered n e) (sym h) in
+    let x = passed_of (shape_table n e) (shape_numbered n e) h in
     record { levels = to_true _ x.0; degrees = to_true _ x.1.0; few = to_true _ x.1.1.0 }
-
-pub zero_then : (a b : ℕ) → 0 ≡ and_then a b → 0 ≡ a
-zero_then zero b h = refl
-zero_then (suc a) b h = h
-
-pub then_second : (a b : ℕ) → 0 ≡ and_then a b → 0 ≡ b
-then_second zero b h = h
-then_second (suc a) b h = absurd (lt_irrefl 0 (omega arith))
 
 pub passed_small : (n : ℤ) (e : List ℤ) → Passed n e → Small (degrees_of e)
 passed_small n e h = small_of (num n) e h.degrees
@@ -67,62 +59,51 @@ passed_few n e h = leb→le (size (degrees_of e) (num n)) 2048 (of_true _ h.few)
 pub passed-low : (n : ℤ) (e : List ℤ) → Passed n e → num n ≤ 4
 passed-low n e h = levels_low n h.levels
 
--- a number found earlier stays
-pub then_first : (a b r : ℕ) → r ≡ a → 0 < r → r ≡ and_then a b
-then_first zero b r e h = absurd (lt_irrefl 0 (omega arith))
-then_first (suc a) b r e h = e
+-- ---- a number behind another
+pub zero_then : (a b : ℕ) → and_then a b ≡ 0 → a ≡ 0
+zero_then zero b h = refl
+zero_then (suc a) b h = h
 
-pub then_next : (a b r k : ℕ) → r ≡ a → r ≤ 0 → k ≡ b → k ≡ and_then a b
-then_next zero b r k e h q = q
-then_next (suc a) b r k e h q = absurd (lt_irrefl 0 (omega arith))
+pub then_second : (a b : ℕ) → and_then a b ≡ 0 → b ≡ 0
+then_second zero b h = h
+then_second (suc a) b h = absurd (lt_irrefl 0 (omega arith))
 
-module _ (p n : ℤ) (e t : List ℤ) (r : ℕ) (er : r ≡ base_number p n e) where
-  pub tower-first : 0 < r → r ≡ tower_number p n e t
-  tower-first h = then_first (base_number p n e) _ r er h ∙ sym (tower-after_base p n e t)
+-- no refusal has the number 0
+pub number_some : (r : Refusal) → 0 < number_of r
+number_some BadModulus = omega arith
+number_some BadDegrees = omega arith
+number_some BadTower = omega arith
+number_some BadLength = omega arith
+number_some BadForm = omega arith
+number_some SmallAnswer = omega arith
+number_some SmallWork = omega arith
+number_some NotMonic = omega arith
+number_some OfZero = omega arith
+number_some NoResidue = omega arith
+number_some TooLong = omega arith
 
-  pub tower_bad : r ≤ 0 → tower_form (num p) (degrees_of e) (num n) t ≡ false → 3 ≡ tower_number p n e t
-  tower_bad h k = then_next (base_number p n e) (unless (tower_form (num p) (degrees_of e) (num n) t) 3 0) r 3 er h (rw k refl) ∙ sym (tower-after_base p n e t)
+-- a refusal found earlier stays, and else it is the next
+pub then_first : (a b : ℕ) (r : Refusal) → a ≡ number_of r → and_then a b ≡ number_of r
+then_first zero b r e = absurd (lt_irrefl 0 (omega (arith, number_some r)))
+then_first (suc a) b r e = e
 
-  pub tower_fine : r ≤ 0 → tower_form (num p) (degrees_of e) (num n) t ≡ true → 0 ≡ tower_number p n e t
-  tower_fine h k = then_next (base_number p n e) (unless (tower_form (num p) (degrees_of e) (num n) t) 3 0) r 0 er h (rw k refl) ∙ sym (tower-after_base p n e t)
+pub then_next : (a b k : ℕ) → a ≡ 0 → b ≡ k → and_then a b ≡ k
+then_next zero b k e q = q
+then_next (suc a) b k e q = absurd (lt_irrefl 0 (omega arith))
 
-module _ (p n : ℤ) (e t a : List ℤ) (r : ℕ) (er : r ≡ tower_number p n e t) where
-  abbrev pub fits_length : Bool
-  fits_length = slot_length (size_of n e) (length a)
+module _ (p n : ℤ) (e t : List ℤ) where
+  pub tower-first : (r : Refusal) → base_number p n e ≡ number_of r → tower_number p n e t ≡ number_of r
+  tower-first r h = tower-after_base p n e t ∙ then_first _ _ _ h
 
-  abbrev pub fits_form : Bool
-  fits_form = slot_form (num p) (degrees_of e) (num n) (slot_count (size_of n e) (length a)) a
+  pub tower-rest : base_number p n e ≡ 0 → (b : Bool) → tower_form (num p) (degrees_of e) (num n) t ≡ b → tower_number p n e t ≡ unless b 3 0
+  tower-rest h b k = tower-after_base p n e t ∙ then_next _ _ _ h (ap (λ x. unless x 3 0) k)
 
-  pub slot-first : 0 < r → r ≡ slot_number p n e t a
-  slot-first h = then_first (tower_number p n e t) _ r er h ∙ sym (slot_is p n e t a)
+  pub slot-first : (a : List ℤ) (r : Refusal) → tower_number p n e t ≡ number_of r → slot_number p n e t a ≡ number_of r
+  slot-first a r h = slot_is p n e t a ∙ then_first _ _ _ h
 
-  slot-rest : r ≤ 0 → (x y : Bool) → fits_length ≡ x → fits_form ≡ y → unless x 4 (unless y 5 0) ≡ slot_number p n e t a
-  slot-rest h x y k l =
-      then_next (tower_number p n e t) (unless fits_length 4 (unless fits_form 5 0)) r (unless x 4 (unless y 5 0)) er h (ap₂ (λ u v. unless u 4 (unless v 5 0)) (sym k) (sym l))
-      ∙ sym (slot_is p n e t a)
-
-  pub slot_short : r ≤ 0 → (s : ℕ) → s ≡ size_of n e → slot_length s (length a) ≡ false → 4 ≡ slot_number p n e t a
-  slot_short h s es k = slot-rest h false _ (ap (λ m. slot_length m (length a)) (sym es) ∙ k) refl
-
-  pub slot_end : r ≤ 0 → (s : ℕ) → s ≡ size_of n e → slot_length s (length a) ≡ true
-      → (b : Bool) → b ≡ slot_form (num p) (degrees_of e) (num n) (slot_count s (length a)) a → unless b 5 0 ≡ slot_number p n e t a
-  slot_end h s es k b eb =
-      slot-rest
-      h
-      true
-      b
-      (ap (λ m. slot_length m (length a)) (sym es) ∙ k)
-      (ap (λ m. slot_form (num p) (degrees_of e) (num n) (slot_count m (length a)) a) (sym es) ∙ sym eb)
+  pub slot-rest : (a : List ℤ) → tower_number p n e t ≡ 0 → (x y : Bool) → length_ok n e a ≡ x → form_ok p n e a ≡ y → slot_number p n e t a ≡ unless x 4 (unless y 5 0)
+  slot-rest a h x y k l = slot_is p n e t a ∙ then_next _ _ _ h (ap₂ (λ u v. unless u 4 (unless v 5 0)) k l)
 
 -- the whole list as a part
 pub seg_all : (m : ℕ) (a : List ℤ) → length a ≡ m → seg 0 m a ≡ a
 seg_all m a h = take_all m a (omega arith)
-
--- the same with the values that the calls gave
-module _ (P p : ℕ) (D d : List ℕ) (M m : ℕ) (eP : P ≡ p) (eD : D ≡ d) (eM : M ≡ m) where
-  pub tower-whole : (t : List ℤ) → tower_form P D M t ≡ tower_form p d m t
-  tower-whole t = rw (eP, eD, eM)
-
-pub answer-some : (k : ℕ) → (k ≡ 0 → ⊥) → refused k ≡ refusal k
-answer-some zero h = absurd (h refl)
-answer-some (suc k) h = refl

@@ -1,8 +1,8 @@
 -- Laws of the residue of a fraction.
-use Prim.Native.Nat.{ℕ, zero, suc, ◌*◌, ◌%◌, ◌^◌, ◌<◌}
+use Prim.Native.Nat.{ℕ, zero, suc, ◌*◌, ◌%◌, ◌<◌}
 use mathlib.Core.Path.{◌≡◌, refl, sym, ap, ◌∙◌, subst}
 use mathlib.Core.Bool.{Bool, true, false, not}
-use native.Mathlib.Nat.{mod-lt, mod-eq_of_lt, lt_irrefl}
+use native.Mathlib.Nat.{mod-eq_of_lt, lt_irrefl}
 use native.Mathlib.Omega.{arith}
 use lib.IntN.{ℤ, pos, negsuc}
 use lib.Dec.{T, lt→ltb}
@@ -17,36 +17,18 @@ use Rattle.algebra.specs.Zmod.{Residue, to_z, residue_path}
 use Rattle.euclid.specs.Answer.{done, shown}
 use Rattle.euclid.specs.Number.{inverse₀, done₀, shown₀}
 use Rattle.residue.specs.Word.{num}
-use Rattle.residue.specs.declared.Inverse.{Inverse}
-use Rattle.residue.specs.declared.Inverse.TheVariants.{Unit, Factor}
-use Rattle.residue.specs.Number.{Operand, UnitOf, FactorOf, Inverted}
-use Rattle.tower.specs.Limits.{p_ok, p_two, p_positive, p_narrow}
+use Rattle.std.specs.Prelude.{Result, Ok, Err}
+use Rattle.residue.specs.Number.{UnitOf, FactorOf}
+use Rattle.tower.specs.Limits.{p_ok, p_two, p_positive}
 use Rattle.tower.specs.Lists.{of_true}
 use Rattle.kernel.specs.declared.FractionResidue.{FractionResidue}
-use Rattle.kernel.specs.declared.Answer.{Answer as Answered}
-use Rattle.kernel.specs.declared.Answer.TheVariants.{Done, Refused}
-use Rattle.kernel.specs.Answers.{said}
-use Rattle.kernel.specs.Refusals.{unless}
+use Rattle.kernel.specs.declared.refusals.Refusal.{Refusal}
+use Rattle.kernel.specs.declared.refusals.Refusal.TheVariants.{BadModulus, NoResidue}
+use Rattle.kernel.specs.Answers.{said, number_of}
+use Rattle.kernel.specs.Refusals.{refused, unless}
 use Rattle.kernel.specs.Calls.{inverse_of, is_given, times_given, fraction_number, fraction_residue, fraction_by}
-use Rattle.kernel.specs.Fractions.{NoFraction, Divided, Shared, QuotientBy, Quotient}
+use Rattle.kernel.specs.Fractions.{Divided, Shared, Quotient, fraction_of}
 use Rattle.kernel.specs.Promises.{FractionGiven}
-
-pub small_operand : (e p : ℕ) → 1 < p → p < 2 ^ 32 → Operand p (e % p)
-small_operand e p one narrow = record { narrow = narrow; small = mod-lt e (omega arith) }
-
-pub unit_of : (p c u : ℕ) (r : Inverse) → r ≡ Unit u → Inverted p c r → UnitOf p c u
-unit_of p c u r e h = subst (Inverted p c) e h
-
-pub factor_of : (p c f : ℕ) (r : Inverse) → r ≡ Factor f → Inverted p c r → FactorOf p c f
-factor_of p c f r e h = subst (Inverted p c) e h
-
-pub shared_of : (n : ℤ) (e p h : ℕ) (r : FractionResidue) → FactorOf p (e % p) h → NoFraction 10 r → Quotient n e p r
-shared_of n e p h r f k = subst (λ x. QuotientBy x n e p r) (sym k.answer) (record { divisor = h; shared = f; none = k })
-
-pub p_range : (p : ℤ) (q : ℕ) → q ≡ num p → p_ok p ≡ true → (1 < q) × (q < 2 ^ 32)
-p_range p q eq h =
-    let t = of_true (p_ok p) h in
-    (omega (arith, p_two p t, eq), omega (arith, p_narrow p t, eq))
 
 -- ---- the specification's inverse is the one that was found
 module _ (p : ℕ) (one : 1 < p) (positive : 0 < p) (e : ℕ) where
@@ -86,39 +68,35 @@ module _ (p n e : ℤ) where
   unfolding fraction_number
   number_is = refl
 
-  refused_by : (k : ℕ) (r : FractionResidue) → NoFraction (suc k) r → fraction_number p e ≡ suc k → FractionGiven p n e r
-  refused_by k r h z = record { answer = ap said h.answer ∙ ap (λ x. (fraction_by x (fraction_residue p n e)).said) (sym z); residue = h.residue ∙ ap (λ x. (fraction_by x (fraction_residue p n e)).residue) (sym z) }
+  by : (k : ℕ) → fraction_number p e ≡ k → (r : FractionResidue) → said r.answer ≡ (fraction_by k (fraction_residue p n e)).said
+      → r.residue ≡ (fraction_by k (fraction_residue p n e)).residue → FractionGiven p n e r
+  by k z r h l = record {
+    answer = h ∙ ap (λ x. (fraction_by x (fraction_residue p n e)).said) (sym z);
+    residue = l ∙ ap (λ x. (fraction_by x (fraction_residue p n e)).residue) (sym z);
+  }
 
-  pub fraction_p : (r : FractionResidue) → p_ok p ≡ false → NoFraction 1 r → FractionGiven p n e r
-  fraction_p r h k = refused_by 0 r k (number_is ∙ number_bad (p_ok p) (lt_z (pos 0) e) (λ h. is_given (inverse_of p e h)) h)
+  pub fraction_p : p_ok p ≡ false → FractionGiven p n e (fraction_of (Err BadModulus))
+  fraction_p h = by 1 (number_is ∙ number_bad (p_ok p) (lt_z (pos 0) e) (λ h. is_given (inverse_of p e h)) h) _ refl refl
 
-  pub fraction-e : (r : FractionResidue) → p_ok p ≡ true → lt_z (pos 0) e ≡ false → NoFraction 10 r → FractionGiven p n e r
-  fraction-e r h l k = refused_by 9 r k (number_is ∙ number-low (p_ok p) _ _ (of_true _ h) l)
+  pub fraction-e : p_ok p ≡ true → lt_z (pos 0) e ≡ false → FractionGiven p n e (fraction_of (Err NoResidue))
+  fraction-e h l = by 10 (number_is ∙ number-low (p_ok p) _ _ (of_true _ h) l) _ refl refl
 
-  module _ (t : T (p_ok p)) (l : lt_z (pos 0) e ≡ true) (r : FractionResidue) where
-    fraction_shared : Shared (num e) (num p) r → FractionGiven p n e r
-    fraction_shared s =
+  module _ (t : T (p_ok p)) (l : lt_z (pos 0) e ≡ true) where
+    fraction_shared : (k : Refusal) → number_of k ≡ 10 → Shared (num e) (num p) → FractionGiven p n e (fraction_of (Err k))
+    fraction_shared k ek s =
         let i = shown_by (num p) (p_two p t) (p_positive p t) (num e) s.divisor s.shared in
-        refused_by 9 r s.none (number_is ∙ number_by (p_ok p) _ _ t l false (ap is_given i))
+        by 10 (number_is ∙ number_by (p_ok p) _ _ t l false (ap is_given i)) _ (ap refused ek) refl
 
-    fraction_done : Divided n (num e) (num p) r → FractionGiven p n e r
+    fraction_done : (r : ℕ) → Divided n (num e) (num p) r → FractionGiven p n e (fraction_of (Ok r))
     unfolding fraction_residue
-    fraction_done s =
+    fraction_done r s =
         let v : Residue (num p) = (s.unit, lt→ltb _ _ s.inverts.small) in
         let i = done_by (num p) (p_two p t) (p_positive p t) (num e) s.unit s.inverts v refl in
-        let k = number_is ∙ number_by (p_ok p) _ _ t l true (ap is_given i) in
-        record {
-          answer = ap said s.answer ∙ ap (λ x. (fraction_by x (fraction_residue p n e)).said) (sym k);
-          residue = s.residue ∙ ap (times_given (num p) n) (sym i) ∙ sym (branch_yes (p_ok p) _ _ t) ∙ ap (λ x. (fraction_by x (fraction_residue p n e)).residue) (sym k);
-        }
+        by 0 (number_is ∙ number_by (p_ok p) _ _ t l true (ap is_given i)) _ refl (s.is ∙ ap (times_given (num p) n) (sym i) ∙ sym (branch_yes (p_ok p) _ _ t))
 
-    pub fraction-found : Quotient n (num e) (num p) r → FractionGiven p n e r
-    fraction-found q = go r.answer refl q
-      where
-        go : (a : Answered) → r.answer ≡ a → QuotientBy a n (num e) (num p) r → FractionGiven p n e r
-        go Done h q = fraction_done q
-        go (Refused k) h q = fraction_shared q
-        go (Rattle.kernel.specs.declared.Answer.TheVariants.Factor _) h q = elim q [ ]
+    pub fraction-found : (r : Result ℕ Refusal) → Quotient n (num e) (num p) r → FractionGiven p n e (fraction_of r)
+    fraction-found (Ok r) q = fraction_done r q
+    fraction-found (Err k) q = fraction_shared k q.0 q.1
 
 -- ---- what the call learns from its tests
 pub e_told : {e : ℤ} → SFits w64 e → (b : Bool) → le_z (wordZ w64 (of_z w64 e)) (pos 0) ≡ b → lt_z (pos 0) e ≡ not b
@@ -129,5 +107,5 @@ e_told {e} fits b eb = above e b (sym (of_word (λ x. le_z x (pos 0)) fits) ∙ 
     above (pos (suc m)) b h = lt-ltb 0 (suc m) (omega arith) ∙ ap not (sym (lt-leb (suc m) 0 (omega arith)) ∙ h)
     above (negsuc m) b h = ap not h
 
-pub quotient-plain : {n : ℤ} {e f p q : ℕ} (r : FractionResidue) → SFits w64 n → e ≡ f → p ≡ q → Quotient (wordZ w64 (of_z w64 n)) e p r → Quotient n f q r
+pub quotient-plain : {n : ℤ} {e f p q : ℕ} (r : Result ℕ Refusal) → SFits w64 n → e ≡ f → p ≡ q → Quotient (wordZ w64 (of_z w64 n)) e p r → Quotient n f q r
 quotient-plain {n} {e} {f} {p} {q} r fits ef pq h = subst (λ x. Quotient n x q r) ef (subst (λ y. Quotient n e y r) pq (subst (λ x. Quotient x e p r) (to_z-of_z w64 n fits) h))

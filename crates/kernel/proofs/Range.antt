@@ -40,31 +40,29 @@ pub levels_low : (n : ℤ) → levels_ok n ≡ true → num n ≤ 4
 levels_low n h = ((levels_range n).0 (of_true (levels_ok n) h)).2
 
 module _ (n : ℤ) (e : List ℤ) where
-  pub shape_levels : levels_ok n ≡ false → 2 ≡ shape_number n e
+  pub shape_levels : levels_ok n ≡ false → shape_number n e ≡ 2
   unfolding shape_number
   shape_levels h = rw h refl
 
-  pub shape-degrees : (m : ℕ) → m ≡ num n → levels_ok n ≡ true → degrees_ok m e ≡ false → 2 ≡ shape_number n e
+  pub shape-degrees : (m : ℕ) → m ≡ num n → levels_ok n ≡ true → degrees_ok m e ≡ false → shape_number n e ≡ 2
   unfolding shape_number
   shape-degrees m em h k = rw (h, ← em, k) refl
 
-  shape_size : (b : Bool) → levels_ok n ≡ true → degrees_ok (num n) e ≡ true → leb (size (degrees_of e) (num n)) 2048 ≡ b → unless b 2 0 ≡ shape_number n e
+  shape_size : (b : Bool) → levels_ok n ≡ true → degrees_ok (num n) e ≡ true → leb (size (degrees_of e) (num n)) 2048 ≡ b → shape_number n e ≡ unless b 2 0
   unfolding shape_number
   shape_size b h k l = rw (h, k, l) refl
 
-  pub shape_fine : (m : ℕ) (z : List ℕ) (s : ℕ) → m ≡ num n → levels_ok n ≡ true → degrees_ok m e ≡ true → Sized (degrees_of e) z → s ≡ get_or z m 0 → s ≤ 2048 → 0 ≡ shape_number n e
-  shape_fine m z s em h k sz es l =
-      let low = levels_low n h in
-      let q : s ≡ size (degrees_of e) (num n) = es ∙ ap (λ x. get_or z x 0) em ∙ sz.at (num n) low in
-      shape_size true h (rw em at k) (le-leb (size (degrees_of e) (num n)) 2048 (omega arith))
+  module _ (m : ℕ) (z : List ℕ) (s : ℕ) (em : m ≡ num n) (h : levels_ok n ≡ true) (k : degrees_ok m e ≡ true) (sz : Sized (degrees_of e) z) (es : s ≡ get_or z m 0) where
+    size-is : s ≡ size (degrees_of e) (num n)
+    size-is = es ∙ ap (λ x. get_or z x 0) em ∙ sz.at (num n) (levels_low n h)
 
-  pub shape_big : (m : ℕ) (z : List ℕ) (s : ℕ) → m ≡ num n → levels_ok n ≡ true → degrees_ok m e ≡ true → Sized (degrees_of e) z → s ≡ get_or z m 0 → 2048 < s → 2 ≡ shape_number n e
-  shape_big m z s em h k sz es l =
-      let low = levels_low n h in
-      let q : s ≡ size (degrees_of e) (num n) = es ∙ ap (λ x. get_or z x 0) em ∙ sz.at (num n) low in
-      shape_size false h (rw em at k) (lt-leb (size (degrees_of e) (num n)) 2048 (omega arith))
+    pub shape_fine : s ≤ 2048 → shape_number n e ≡ 0
+    shape_fine l = shape_size true h (rw em at k) (le-leb (size (degrees_of e) (num n)) 2048 (omega (arith, size-is)))
 
-  pub base_p : (p : ℤ) → p_ok p ≡ false → 1 ≡ base_number p n e
+    pub shape_big : 2048 < s → shape_number n e ≡ 2
+    shape_big l = shape_size false h (rw em at k) (lt-leb (size (degrees_of e) (num n)) 2048 (omega (arith, size-is)))
+
+  pub base_p : (p : ℤ) → p_ok p ≡ false → base_number p n e ≡ 1
   unfolding base_number shape_number
   base_p p h = rw h refl
 

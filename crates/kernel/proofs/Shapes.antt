@@ -3,15 +3,18 @@ use Prim.Native.Nat.{ℕ, ◌+◌, ◌*◌, ◌<◌, ◌≤◌}
 use mathlib.Core.Path.{◌≡◌, refl, sym, ap, ap₂, ◌∙◌, subst}
 use mathlib.Core.Bool.{Bool, true, false}
 use mathlib.Core.List.{List}
+use Rattle.std.specs.Prelude.{Result}
 use native.Mathlib.Omega.{arith}
 use lib.IntN.{ℤ}
 use lib.ListN.{length, get_or}
-use Rattle.kernel.specs.declared.Shape.{Shape}
-use Rattle.kernel.proofs.Order.{tower_bad, tower_fine, slot_short, slot_end, seg_all, zero_of, zero_then, base_is, tower-after_base, tower-whole, shape-passed, passed_small, passed-low, passed_few}
+use Rattle.kernel.specs.declared.refusals.Refusal.{Refusal}
+use Rattle.kernel.specs.declared.shape.Shape.{Shape}
+use Rattle.kernel.proofs.Order.{tower-rest, slot-rest, seg_all, shape-passed, passed_small, passed-low, passed_few}
+use Rattle.kernel.proofs.Range.{base_shape}
 use Rattle.kernel.proofs.Working.{passed_big}
-use Rattle.kernel.specs.Calls.{shape_number, base_number, tower_number, slot_number}
-use Rattle.kernel.specs.Refusals.{unless, zero-unless}
-use Rattle.kernel.specs.Shape.{Known, ShapeOf}
+use Rattle.kernel.specs.Calls.{size_of, length_ok, form_ok, shape_number, base_number, tower_number, slot_number}
+use Rattle.kernel.specs.Refusals.{unless}
+use Rattle.kernel.specs.Shape.{Known, ShapeOf, Checked}
 use Rattle.residue.specs.Word.{num}
 use Rattle.tower.proofs.Lengths.{length-is}
 use Rattle.tower.specs.Form.{seg, slot_form, tower_form}
@@ -22,10 +25,10 @@ use Rattle.tower.specs.Writing.{size, size-pos}
 
 module _ (n : ℤ) (e : List ℤ) (h : 0 ≡ shape_number n e) where
   pub shape_small : Small (degrees_of e)
-  shape_small = passed_small n e (shape-passed n e h)
+  shape_small = passed_small n e (shape-passed n e (sym h))
 
   pub shape-low : num n ≤ 4
-  shape-low = passed-low n e (shape-passed n e h)
+  shape-low = passed-low n e (shape-passed n e (sym h))
 
   shape_known : (m : ℕ) (d z : List ℕ) (s : ℕ) → num n ≡ m → degrees_of e ≡ d → Sized d z → s ≡ get_or z m 0 → Known (record { levels = m; degrees = d; sizes = z; size = s })
   shape_known m d z s em ed sz es =
@@ -35,9 +38,9 @@ module _ (n : ℤ) (e : List ℤ) (h : 0 ≡ shape_number n e) where
         low = low;
         sized = sz;
         small = subst Small ed shape_small;
-        some = λ k l. subst (λ x. 1 ≤ degree x k) ed (let q = passed_big n e (shape-passed n e h) k (omega arith) in omega arith);
+        some = λ k l. subst (λ x. 1 ≤ degree x k) ed (let q = passed_big n e (shape-passed n e (sym h)) k (omega arith) in omega arith);
         is-size = is;
-        few = omega (arith, is, ap₂ size ed em, passed_few n e (shape-passed n e h));
+        few = omega (arith, is, ap₂ size ed em, passed_few n e (shape-passed n e (sym h)));
       }
 
   pub shape-made : (m : ℕ) (d z : List ℕ) (s : ℕ) → m ≡ num n → d ≡ degrees_of e → Sized d z → s ≡ get_or z m 0 → ShapeOf n e (record { levels = m; degrees = d; sizes = z; size = s })
@@ -63,36 +66,34 @@ module _ (s : Shape) (a : List ℤ) (k : Known s) (h : slot_length s.size (lengt
   size-positive = omega (arith, k.is-size, size-pos s.degrees s.levels)
 
 -- ---- what a call learns from the tests of its callees
-pub shape-zero : (p n : ℤ) (e : List ℤ) (r : ℕ) → r ≡ base_number p n e → r ≤ 0 → 0 ≡ shape_number n e
-shape-zero p n e r er h = sym (zero-unless (p_ok p) 1 (shape_number n e) (omega arith) (sym (zero_of r h ∙ er ∙ base_is p n e))).1
+-- where p is in range, what the shape's tests come to
+pub base-checked : (p n : ℤ) (e : List ℤ) (r : Result Shape Refusal) → p_ok p ≡ true → Checked (shape_number n e) n e r → Checked (base_number p n e) n e r
+base-checked p n e r h k = subst (λ m. Checked m n e r) (base_shape n e p _ h refl) k
 
-pub tower-zero : (p n : ℤ) (e t : List ℤ) (r : ℕ) → r ≡ tower_number p n e t → r ≤ 0 → 0 ≡ shape_number n e
-tower-zero p n e t r er h = shape-zero p n e (base_number p n e) refl (omega (arith, zero_then (base_number p n e) _ (zero_of r h ∙ er ∙ tower-after_base p n e t)))
-
-module _ (p n : ℤ) (e : List ℤ) (s : Shape) (is : ShapeOf n e s) (q : ℕ) (eq : q ≡ num p) where
-  tower-found : (t : List ℤ) (b : Bool) → b ≡ tower_form q s.degrees s.levels t → tower_form (num p) (degrees_of e) (num n) t ≡ b
-  tower-found t b eb = sym (tower-whole q (num p) s.degrees (degrees_of e) s.levels (num n) eq is.degrees is.levels t) ∙ sym eb
-
+module _ {n : ℤ} {e : List ℤ} {s : Shape} (is : ShapeOf n e s) where
   -- the size of a coefficient
-  pub size-found : s.size ≡ size (degrees_of e) (num n)
+  pub size-found : s.size ≡ size_of n e
   size-found = is.known.is-size ∙ ap₂ size is.degrees is.levels
 
   -- and of a level
   pub level-size : (l : ℕ) → l ≤ 4 → (k : ℕ) → k ≡ get_or s.sizes l 0 → k ≡ size (degrees_of e) l
   level-size l h k ek = ek ∙ is.known.sized.at l h ∙ ap (λ d. size d l) is.degrees
 
-  slot-found : (a : List ℤ) (b : Bool) → b ≡ slot_form q s.degrees s.levels (slot_count s.size (length a)) a
-      → b ≡ slot_form (num p) (degrees_of e) (num n) (slot_count s.size (length a)) a
-  slot-found a b eb = eb ∙ λ i. slot_form (eq i) (is.degrees i) (is.levels i) (slot_count s.size (length a)) a
+  pub length-found : (a : List ℤ) (b : Bool) → b ≡ slot_length s.size (length a) → length_ok n e a ≡ b
+  length-found a b eb = sym (eb ∙ ap (λ m. slot_length m (length a)) size-found)
 
-  -- the number that the last test of a call comes to
-  pub tower-answered : (t : List ℤ) (r : ℕ) → r ≡ base_number p n e → r ≤ 0 → (b : Bool) → b ≡ tower_form q s.degrees s.levels t → unless b 3 0 ≡ tower_number p n e t
-  tower-answered t r er h true eb = tower_fine p n e t r er h (tower-found t true eb)
-  tower-answered t r er h false eb = tower_bad p n e t r er h (tower-found t false eb)
+  module _ (p : ℤ) (q : ℕ) (eq : q ≡ num p) where
+    pub form-found : (a : List ℤ) (b : Bool) → b ≡ slot_form q s.degrees s.levels (slot_count s.size (length a)) a → form_ok p n e a ≡ b
+    form-found a b eb = sym (eb ∙ λ i. slot_form (eq i) (is.degrees i) (is.levels i) (slot_count (size-found i) (length a)) a)
 
-  pub slot_unfit : (t a : List ℤ) (r : ℕ) → r ≡ tower_number p n e t → r ≤ 0 → slot_length s.size (length a) ≡ false → 4 ≡ slot_number p n e t a
-  slot_unfit t a r er h k = slot_short p n e t a r er h s.size size-found k
+    module _ (t : List ℤ) where
+      -- the number that the last test of a call comes to
+      pub tower-answered : base_number p n e ≡ 0 → (b : Bool) → b ≡ tower_form q s.degrees s.levels t → tower_number p n e t ≡ unless b 3 0
+      tower-answered h b eb = tower-rest p n e t h b (sym (eb ∙ λ i. tower_form (eq i) (is.degrees i) (is.levels i) t))
 
-  pub slot-answered : (t a : List ℤ) (r : ℕ) → r ≡ tower_number p n e t → r ≤ 0 → slot_length s.size (length a) ≡ true
-      → (b : Bool) → b ≡ slot_form q s.degrees s.levels (slot_count s.size (length a)) a → unless b 5 0 ≡ slot_number p n e t a
-  slot-answered t a r er h k b eb = slot_end p n e t a r er h s.size size-found k b (slot-found a b eb)
+      pub slot-answered : (a : List ℤ) → tower_number p n e t ≡ 0 → true ≡ slot_length s.size (length a)
+          → (b : Bool) → b ≡ slot_form q s.degrees s.levels (slot_count s.size (length a)) a → slot_number p n e t a ≡ unless b 5 0
+      slot-answered a h k b eb = slot-rest p n e t a h true b (length-found a true k) (form-found a b eb)
+
+  pub slot_unfit : (p : ℤ) (t a : List ℤ) → tower_number p n e t ≡ 0 → false ≡ slot_length s.size (length a) → slot_number p n e t a ≡ 4
+  slot_unfit p t a h k = slot-rest p n e t a h false _ (length-found a false k) refl

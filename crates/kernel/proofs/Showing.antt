@@ -13,14 +13,12 @@ use Rattle.euclid.specs.Gcd.{Made, made_count, made_coefficients}
 use Rattle.euclid.specs.Shown.{shown_words, shown_fits}
 use Rattle.euclid.specs.Towers.{Shown, shown_level}
 use Rattle.products.specs.Product.{Elements}
-use Rattle.sequences.specs.Gcds.{Finds}
+use Rattle.sequences.specs.Gcds.{Finds, greatest}
 use Rattle.sequences.specs.Outcomes.{FactorStands, Came, Above, Reached}
-use Rattle.sequences.specs.declared.Outcome.{Outcome}
-use Rattle.sequences.specs.declared.Outcome.TheVariants.{Done, Factor, Long}
-use Rattle.sequences.specs.declared.Ended.{Ended}
-use Rattle.sequences.specs.declared.Ended.TheVariants.{Inverse, Divisor, Endless}
-use Rattle.sequences.specs.declared.Found.{Found}
-use Rattle.sequences.specs.declared.Found.TheVariants.{Greatest, Divides, Never}
+use Rattle.sequences.specs.declared.Greatest.{Greatest}
+use Rattle.sequences.specs.declared.Stop.{Stop}
+use Rattle.sequences.specs.declared.Stop.TheVariants.{Factor, Long}
+use Rattle.std.specs.Prelude.{Result, Ok, Err}
 use Rattle.tower.specs.Form.{seg, copies}
 use Rattle.tower.specs.Levels.{El, Tower, ring, Ones}
 use Rattle.tower.specs.Stands.{Stands}
@@ -99,24 +97,27 @@ module _ (p : ℕ) (p_pos : 0 < p) (d : List ℕ) (i : ℕ) (t : Tower p d i) (w
     pub count : k ≡ made_count m
     pub stands : Elements p d i (made_count m) (made_coefficients (ring p p_pos d i t) m) w at
 
-  pub came_done : (A : Answer (Shown p d i) (El p d i)) (o : Outcome) (c : ℕ) → Came p p_pos d i t A o w c → o ≡ Done → Inverts A c
+  pub came_done : (A : Answer (Shown p d i) (El p d i)) (o : Result (Unit {0}) Stop) (c : ℕ) → Came p p_pos d i t A o w c → o ≡ Ok tt → Inverts A c
   came_done (done-with u) o c (e, s) q = record { u = u; is = refl; stands = s }
   came_done (shown x) o c (e, s) q = absurd (let z : ◌≡◌ {A = ℕ} 0 1 = cc in omega arith)
   came_done long o c e q = absurd (let z : ◌≡◌ {A = ℕ} 0 1 = cc in omega arith)
 
-  pub came_shown : (A : Answer (Shown p d i) (El p d i)) (o : Outcome) (c l : ℕ) → Came p p_pos d i t A o w c → o ≡ Factor l → Shows A l c
-  came_shown (done-with u) o c l (e, s) q = absurd (let z : ◌≡◌ {A = ℕ} 0 1 = cc in omega arith)
-  came_shown (shown x) o c l (e, s) q = record { factor = x; is = refl; level-is = cc; stands = s }
-  came_shown long o c l e q = absurd (let z : ◌≡◌ {A = ℕ} 0 1 = cc in omega arith)
+  pub came_shown : (A : Answer (Shown p d i) (El p d i)) (o : Result (Unit {0}) Stop) (c l at : ℕ) → Came p p_pos d i t A o w c → o ≡ Err (Factor l at)
+      → Shows A l at × (at ≡ c)
+  came_shown (done-with u) o c l at (e, s) q = absurd (let z : ◌≡◌ {A = ℕ} 0 1 = cc in omega arith)
+  came_shown (shown x) o c l at (e, s) q =
+      let same : c ≡ at = cc in
+      (record { factor = x; is = refl; level-is = cc; stands = subst (λ y. FactorStands p p_pos d i t x w y) same s }, sym same)
+  came_shown long o c l at e q = absurd (let z : ◌≡◌ {A = ℕ} 0 1 = cc in omega arith)
 
-  pub came_long : (A : Answer (Shown p d i) (El p d i)) (o : Outcome) (c : ℕ) → Came p p_pos d i t A o w c → o ≡ Long → A ≡ long
+  pub came_long : (A : Answer (Shown p d i) (El p d i)) (o : Result (Unit {0}) Stop) (c : ℕ) → Came p p_pos d i t A o w c → o ≡ Err Long → A ≡ long
   came_long (done-with u) o c (e, s) q = absurd (let z : ◌≡◌ {A = ℕ} 0 1 = cc in omega arith)
   came_long (shown x) o c (e, s) q = absurd (let z : ◌≡◌ {A = ℕ} 0 1 = cc in omega arith)
   came_long long o c e q = refl
 
   -- above level 0 the place is among the words above top
   module _ (top : ℕ) where
-    pub reached_inverse : (A : Answer (Shown p d i) (El p d i)) (o : Ended) (at : ℕ) → Reached p p_pos d i t A o w top → o ≡ Inverse at
+    pub reached_inverse : (A : Answer (Shown p d i) (El p d i)) (o : Result ℕ Stop) (at : ℕ) → Reached p p_pos d i t A o w top → o ≡ Ok at
         → Inverts A at × Above d i (size d i) at top
     reached_inverse (done-with u) o at (b, e, h, s) q =
         let same : b ≡ at = cc in
@@ -124,7 +125,7 @@ module _ (p : ℕ) (p_pos : 0 < p) (d : List ℕ) (i : ℕ) (t : Tower p d i) (w
     reached_inverse (shown x) o at (b, e, h, s) q = absurd (let z : ◌≡◌ {A = ℕ} 0 1 = cc in omega arith)
     reached_inverse long o at e q = absurd (let z : ◌≡◌ {A = ℕ} 0 1 = cc in omega arith)
 
-    pub reached_divisor : (A : Answer (Shown p d i) (El p d i)) (o : Ended) (l at : ℕ) → Reached p p_pos d i t A o w top → o ≡ Divisor l at
+    pub reached_divisor : (A : Answer (Shown p d i) (El p d i)) (o : Result ℕ Stop) (l at : ℕ) → Reached p p_pos d i t A o w top → o ≡ Err (Factor l at)
         → Shows A l at × Above d i (size d l) at top
     reached_divisor (done-with u) o l at (b, e, h, s) q = absurd (let z : ◌≡◌ {A = ℕ} 0 1 = cc in omega arith)
     reached_divisor (shown x) o l at (b, e, h, s) q =
@@ -135,24 +136,25 @@ module _ (p : ℕ) (p_pos : 0 < p) (d : List ℕ) (i : ℕ) (t : Tower p d i) (w
         )
     reached_divisor long o l at e q = absurd (let z : ◌≡◌ {A = ℕ} 0 1 = cc in omega arith)
 
-    pub reached_endless : (A : Answer (Shown p d i) (El p d i)) (o : Ended) → Reached p p_pos d i t A o w top → o ≡ Endless → A ≡ long
+    pub reached_endless : (A : Answer (Shown p d i) (El p d i)) (o : Result ℕ Stop) → Reached p p_pos d i t A o w top → o ≡ Err Long → A ≡ long
     reached_endless (done-with u) o (b, e, h, s) q = absurd (let z : ◌≡◌ {A = ℕ} 0 1 = cc in omega arith)
     reached_endless (shown x) o (b, e, h, s) q = absurd (let z : ◌≡◌ {A = ℕ} 0 1 = cc in omega arith)
     reached_endless long o e q = refl
 
     -- a GCD: its k coefficients stand at a place below top
-    pub finds_greatest : (A : Answer (Shown p d i) (Made (El p d i) (Unit {0}))) (o : Found) (at k : ℕ) → Finds p p_pos d i t A o w top → o ≡ Greatest at k
+    pub finds_greatest : (A : Answer (Shown p d i) (Made (El p d i) (Unit {0}))) (o : Result Greatest Stop) (at k : ℕ) → Finds p p_pos d i t A o w top → o ≡ Ok (greatest at k)
         → Gives A at k × (at + k * size d i ≤ top)
     finds_greatest (done-with m) o at k (b, e, h, s) q =
-        let same : b ≡ at = cc in
-        let count : made_count m ≡ k = cc in (
+        let both : greatest b (made_count m) ≡ greatest at k = cc in
+        let same : b ≡ at = ap (λ x. x.at) both in
+        let count : made_count m ≡ k = ap (λ x. x.count) both in (
           record { m = m; is = refl; count = sym count; stands = subst (λ x. Elements p d i (made_count m) (made_coefficients (ring p p_pos d i t) m) w x) same s },
           subst₂ (λ x j. x + j * size d i ≤ top) same count h,
         )
     finds_greatest (shown x) o at k (b, e, h, s) q = absurd (let z : ◌≡◌ {A = ℕ} 0 1 = cc in omega arith)
     finds_greatest long o at k e q = absurd (let z : ◌≡◌ {A = ℕ} 0 1 = cc in omega arith)
 
-    pub finds_divides : (A : Answer (Shown p d i) (Made (El p d i) (Unit {0}))) (o : Found) (l at : ℕ) → Finds p p_pos d i t A o w top → o ≡ Divides l at
+    pub finds_divides : (A : Answer (Shown p d i) (Made (El p d i) (Unit {0}))) (o : Result Greatest Stop) (l at : ℕ) → Finds p p_pos d i t A o w top → o ≡ Err (Factor l at)
         → Shows A l at × (at + size d l ≤ top)
     finds_divides (done-with m) o l at (b, e, h, s) q = absurd (let z : ◌≡◌ {A = ℕ} 0 1 = cc in omega arith)
     finds_divides (shown x) o l at (b, e, h, s) q =
@@ -163,7 +165,7 @@ module _ (p : ℕ) (p_pos : 0 < p) (d : List ℕ) (i : ℕ) (t : Tower p d i) (w
         )
     finds_divides long o l at e q = absurd (let z : ◌≡◌ {A = ℕ} 0 1 = cc in omega arith)
 
-    pub finds_never : (A : Answer (Shown p d i) (Made (El p d i) (Unit {0}))) (o : Found) → Finds p p_pos d i t A o w top → o ≡ Never → A ≡ long
+    pub finds_never : (A : Answer (Shown p d i) (Made (El p d i) (Unit {0}))) (o : Result Greatest Stop) → Finds p p_pos d i t A o w top → o ≡ Err Long → A ≡ long
     finds_never (done-with m) o (b, e, h, s) q = absurd (let z : ◌≡◌ {A = ℕ} 0 1 = cc in omega arith)
     finds_never (shown x) o (b, e, h, s) q = absurd (let z : ◌≡◌ {A = ℕ} 0 1 = cc in omega arith)
     finds_never long o e q = refl

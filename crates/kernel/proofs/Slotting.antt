@@ -1,9 +1,8 @@
 -- Laws of the tests that product and division share, and of what is known where none of them gives a number.
 --
--- needed-one, needed-quotient, needed-zero, needed-product == the coefficients that an answer needs, case by case
 -- slots_first .. slots_end  == the number, test by test, with the values that the calls gave;  slots_counts == the degree words that are read count few
 -- three-allowed, three-some == three slots of allowed lengths, and that they have words
--- slots_passed              == no number: everything is tested;  slots_shape == N and the degrees are in range
+-- slots_passed              == no number: everything is tested
 -- slots_plain, slots_ready  == the core may work: with the numbers as they were handed over, and with the values that the calls gave
 -- held_stands, held-length, held-modulus, held-positive == a tower that is held: its words stand and are all, its modulus and its degrees
 -- tower_holds, a_holds, b_holds == the tower and the two polynomials stand;  a_long, b_long, c_long == the lengths of the slots;
@@ -12,17 +11,19 @@
 -- put_whole                    == a slot that is written as a whole
 -- cleared-nothing, cleared-none, cleared_by == the work store after Done: nothing needed, at level 0, and else
 -- clear_room, store_cleared == with the values that the calls gave
-use Rattle.kernel.proofs.Order.{then_first, then_next, zero_of, zero_then, seg_all}
-use Rattle.kernel.proofs.Shapes.{size-found, tower-zero}
+use Rattle.kernel.proofs.Order.{then_first, then_next, seg_all}
+use Rattle.kernel.proofs.Shapes.{size-found, length-found}
 use Rattle.kernel.proofs.Viewing.{and_split, forms-found}
-use Rattle.kernel.specs.Calls.{size_of, coefficients_of, length_ok, form_ok, tower_table, tower_number, shape_number}
-use Rattle.kernel.specs.Meaning.{TowerHeld, tower_numbered, tower-says, ones}
-use Rattle.kernel.specs.Refusals.{Table, first-append, unless, and_then, passed_of, ordered_numbered}
+use Rattle.kernel.specs.Answers.{number_of}
+use Rattle.kernel.specs.Calls.{size_of, coefficients_of, length_ok, form_ok, tower_number}
+use Rattle.kernel.specs.Meaning.{TowerHeld, tower_behind, tower-says, ones}
+use Rattle.kernel.specs.Refusals.{Table, unless, and_then, passed_of, ordered_numbered}
 use Rattle.kernel.specs.Shape.{ShapeOf}
 use Rattle.kernel.specs.SlotLaws.{Tested, tested, tower-is, held_few, cleared-words}
 use Rattle.kernel.specs.SlotMeaning.{room_iff, room-count}
 use Rattle.kernel.specs.Slots.{degree_count, polynomial_of, room_needed, slots_table, slots_number, cleared}
-use Rattle.kernel.specs.declared.Shape.{Shape}
+use Rattle.kernel.specs.declared.refusals.Refusal.{Refusal}
+use Rattle.kernel.specs.declared.shape.Shape.{Shape}
 use Rattle.polynomials.specs.Slots.{SlotsReady}
 use Rattle.products.specs.Product.{work, work-zero, work_suc, TowerStands}
 use Rattle.arithmetic.specs.Places.{wide}
@@ -50,43 +51,18 @@ use lib.Dec.{T, leb}
 use lib.ListN.{length, drop}
 use lib.Seq.{take-append_seam}
 
--- ---- the coefficients that an answer needs, as the code finds them
--- a quotient of a smaller dividend
-pub needed-one : (divides : Bool) (k l : ℕ) → divides ≡ true → k < l → 1 ≡ room_needed divides k l
-needed-one true k l e h = omega arith
-needed-one false k l e h = absurd (of_true false e)
-
--- any other quotient
-pub needed-quotient : (divides : Bool) (k l : ℕ) → divides ≡ true → l ≤ k → k - l + 1 ≡ room_needed divides k l
-needed-quotient true k l e h = omega arith
-needed-quotient false k l e h = absurd (of_true false e)
-
--- a product with zero
-pub needed-zero : (divides : Bool) (k l : ℕ) → divides ≡ false → l ≡ 0 → 1 ≡ room_needed divides k l
-needed-zero true k l e h = absurd (of_true false (sym e))
-needed-zero false zero l e h = refl
-needed-zero false (suc k) zero e h = refl
-needed-zero false (suc k) (suc l) e h = absurd (omega arith)
-
--- any other product
-pub needed-product : (divides : Bool) (k l : ℕ) → divides ≡ false → 0 < k → 0 < l → k + l - 1 ≡ room_needed divides k l
-needed-product true k l e h q = absurd (of_true false (sym e))
-needed-product false zero l e h q = absurd (omega arith)
-needed-product false (suc k) zero e h q = absurd (omega arith)
-needed-product false (suc k) (suc l) e h q = omega arith
-
 -- ---- three slots of allowed lengths
-module _ (s j k l : ℕ) (x : Bool) (ex : x ≡ (slot_length s j && (slot_length s k && slot_length s l))) (fx : x ≡ true) where
+module _ (s j k l : ℕ) (h : true ≡ (slot_length s j && (slot_length s k && slot_length s l))) where
   pub three-allowed : (slot_length s j ≡ true) × (slot_length s k ≡ true) × (slot_length s l ≡ true)
   three-allowed =
-      let h = and_split (slot_length s j) (slot_length s k && slot_length s l) (sym ex ∙ fx) in
-      let g = and_split (slot_length s k) (slot_length s l) h.1 in
-      (h.0, g.0, g.1)
+      let f = and_split (slot_length s j) (slot_length s k && slot_length s l) (sym h) in
+      let g = and_split (slot_length s k) (slot_length s l) f.1 in
+      (f.0, g.0, g.1)
 
   pub three-some : (0 < j) × (0 < k) × (0 < l)
   three-some =
-      let h = three-allowed in
-      (omega (arith, length-is s j h.0), omega (arith, length-is s k h.1), omega (arith, length-is s l h.2))
+      let f = three-allowed in
+      (omega (arith, length-is s j f.0), omega (arith, length-is s k f.1), omega (arith, length-is s l f.2))
 
 -- a slot of an allowed length has a degree word and its coefficients
 pub allowed_long : (n : ℤ) (e x : List ℤ) → T (length_ok n e x) → 1 + coefficients_of n e x * size_of n e ≡ length x
@@ -121,74 +97,66 @@ module _ (divides : Bool) (p n : ℤ) (e t a b c v : List ℤ) where
 
   -- the tests behind those of the tower
   slots_is : slots_number divides p n e t a b c v ≡ and_then (tower_number p n e t) (rest lengths forms room store)
-  unfolding slots_number tower_number
-  slots_is = first-append (tower_table p n e t) ((4, λ _. lengths) ∷ (5, λ _. forms) ∷ (6, λ _. room) ∷ (7, λ _. store) ∷ []) (tower_numbered p n e t)
+  unfolding slots_number
+  slots_is = tower_behind p n e t ((4, λ _. lengths) ∷ (5, λ _. forms) ∷ (6, λ _. room) ∷ (7, λ _. store) ∷ [])
 
   -- everything is tested where no number is given
-  pub slots_passed : 0 ≡ slots_number divides p n e t a b c v → Tested p n e t a b c v (room_needed divides (degree_count a) (degree_count b)) []
+  pub slots_passed : slots_number divides p n e t a b c v ≡ 0 → Tested p n e t a b c v (room_needed divides (degree_count a) (degree_count b)) []
   unfolding slots_number
   slots_passed h =
       let table = slots_table p n e t a b c v (room_needed divides (degree_count a) (degree_count b)) in
-      tested p n e t a b c v _ [] (passed_of table (ordered_numbered 1 table (omega arith) tt) (sym h))
-
-  -- N and the degrees are in range
-  pub slots_shape : 0 ≡ slots_number divides p n e t a b c v → 0 ≡ shape_number n e
-  slots_shape h = tower-zero p n e t 0 (zero_then (tower_number p n e t) (rest lengths forms room store) (h ∙ slots_is)) (omega arith)
+      tested p n e t a b c v _ [] (passed_of table (ordered_numbered 1 table (omega arith) tt) h)
 
   -- test by test, with the values that the calls gave
-  module _ (r : ℕ) (er : r ≡ tower_number p n e t) where
-    pub slots_first : 0 < r → r ≡ slots_number divides p n e t a b c v
-    slots_first h = then_first (tower_number p n e t) _ r er h ∙ sym slots_is
+  pub slots_first : (r : Refusal) → tower_number p n e t ≡ number_of r → slots_number divides p n e t a b c v ≡ number_of r
+  slots_first r h = slots_is ∙ then_first _ _ r h
 
-    slots_rest : r ≤ 0 → (x y z w : Bool) → lengths ≡ x → forms ≡ y → room ≡ z → store ≡ w → rest x y z w ≡ slots_number divides p n e t a b c v
-    slots_rest h x y z w i j k l =
-        then_next (tower_number p n e t) (rest lengths forms room store) r (rest x y z w) er h (λ u. rest (sym i u) (sym j u) (sym k u) (sym l u)) ∙ sym slots_is
+  module _ (h : tower_number p n e t ≡ 0) where
+    slots_rest : (x y z w : Bool) → lengths ≡ x → forms ≡ y → room ≡ z → store ≡ w → slots_number divides p n e t a b c v ≡ rest x y z w
+    slots_rest x y z w i j k l = slots_is ∙ then_next _ _ _ h (λ u. rest (i u) (j u) (k u) (l u))
 
-    module _ (h : r ≤ 0) (s : Shape) (is : ShapeOf n e s) (x : Bool)
-        (ex : x ≡ (slot_length s.size (length a) && (slot_length s.size (length b) && slot_length s.size (length c)))) where
-      size_is : s.size ≡ size_of n e
-      size_is = size-found p n e s is (num p) refl
+    module _ (s : Shape) (is : ShapeOf n e s) where
+      lengths_told : (x : Bool) → x ≡ (slot_length s.size (length a) && (slot_length s.size (length b) && slot_length s.size (length c))) → lengths ≡ x
+      lengths_told x ex =
+          (λ i. length-found is a _ refl i && (length-found is b _ refl i && length-found is c _ refl i)) ∙ sym ex
 
-      lengths_told : lengths ≡ x
-      lengths_told = sym (ex ∙ ap (λ m. slot_length m (length a) && (slot_length m (length b) && slot_length m (length c))) size_is)
+      pub slots_short : false ≡ (slot_length s.size (length a) && (slot_length s.size (length b) && slot_length s.size (length c)))
+          → slots_number divides p n e t a b c v ≡ 4
+      slots_short f = slots_rest false _ _ _ (lengths_told false f) refl refl refl
 
-      pub slots_short : x ≡ false → 4 ≡ slots_number divides p n e t a b c v
-      slots_short f = slots_rest h false _ _ _ (lengths_told ∙ f) refl refl refl
+      module _ (fx : true ≡ (slot_length s.size (length a) && (slot_length s.size (length b) && slot_length s.size (length c)))) (q : ℕ) (eq : q ≡ num p) where
+        pub slots_bad : false ≡ (slot_form q s.degrees s.levels (slot_count s.size (length a)) a && slot_form q s.degrees s.levels (slot_count s.size (length b)) b)
+            → slots_number divides p n e t a b c v ≡ 5
+        slots_bad f = slots_rest true false _ _ (lengths_told true fx) (forms-found is p q eq a b false f) refl refl
 
-      module _ (fx : x ≡ true) (q : ℕ) (eq : q ≡ num p) (y : Bool)
-          (ey : y ≡ (slot_form q s.degrees s.levels (slot_count s.size (length a)) a && slot_form q s.degrees s.levels (slot_count s.size (length b)) b)) where
-        forms_told : forms ≡ y
-        forms_told = forms-found p n e s is q eq a b y ey
+        module _ (fy : true ≡ (slot_form q s.degrees s.levels (slot_count s.size (length a)) a && slot_form q s.degrees s.levels (slot_count s.size (length b)) b)) where
+          forms_told : forms ≡ true
+          forms_told = forms-found is p q eq a b true fy
 
-        pub slots_bad : y ≡ false → 5 ≡ slots_number divides p n e t a b c v
-        slots_bad f = slots_rest h true false _ _ (lengths_told ∙ fx) (forms_told ∙ f) refl refl
-
-        module _ (fy : y ≡ true) where
           pub slots_counts : (degree_count a ≤ 256) × (degree_count b ≤ 256)
           slots_counts =
-              let m = (tower-says p n e t 0 (sym (zero_of r h ∙ er))).range.modulus in
-              let l = three-allowed (size_of n e) (length a) (length b) (length c) true (sym (lengths_told ∙ fx)) refl in
-              let f = and_split (form_ok p n e a) (form_ok p n e b) (forms_told ∙ fy) in
+              let m = (tower-says p n e t 0 h).range.modulus in
+              let l = three-allowed (size_of n e) (length a) (length b) (length c) (sym (lengths_told true fx)) in
+              let f = and_split (form_ok p n e a) (form_ok p n e b) forms_told in
               (count_low p n e a m (of_true _ l.0) (of_true _ f.0), count_low p n e b m (of_true _ l.1) (of_true _ f.1))
 
           module _ (k : ℕ) (ek : k ≡ slot_count s.size (length c)) (g : ℕ) (eg : g ≡ room_needed divides (degree_count a) (degree_count b)) where
             room_told : room ≡ leb g k
-            room_told = sym (ap₂ leb eg (ek ∙ ap (λ m. slot_count m (length c)) size_is))
+            room_told = sym (ap₂ leb eg (ek ∙ ap (λ m. slot_count m (length c)) (size-found is)))
 
-            pub slots_small : k < g → 6 ≡ slots_number divides p n e t a b c v
-            slots_small l = slots_rest h true true false _ (lengths_told ∙ fx) (forms_told ∙ fy) (room_told ∙ lt-leb g k l) refl
+            pub slots_small : k < g → slots_number divides p n e t a b c v ≡ 6
+            slots_small l = slots_rest true true false _ (lengths_told true fx) forms_told (room_told ∙ lt-leb g k l) refl
 
             module _ (l : g ≤ k) (m : ℕ) (em : m ≡ product_work s.degrees s.levels) where
-              store_told : store ≡ leb m (length v)
-              store_told = sym (ap (λ u. leb u (length v)) (em ∙ ap₂ product_work is.degrees is.levels))
+              slots_last : (w : Bool) → leb m (length v) ≡ w → slots_number divides p n e t a b c v ≡ unless w 7 0
+              slots_last w f =
+                  slots_rest true true true w (lengths_told true fx) forms_told (room_told ∙ le-leb g k l)
+                  (sym (ap (λ u. leb u (length v)) (em ∙ ap₂ product_work is.degrees is.levels)) ∙ f)
 
-              slots_last : (w : Bool) → leb m (length v) ≡ w → unless w 7 0 ≡ slots_number divides p n e t a b c v
-              slots_last w f = slots_rest h true true true w (lengths_told ∙ fx) (forms_told ∙ fy) (room_told ∙ le-leb g k l) (store_told ∙ f)
-
-              pub slots_few : length v < m → 7 ≡ slots_number divides p n e t a b c v
+              pub slots_few : length v < m → slots_number divides p n e t a b c v ≡ 7
               slots_few f = slots_last false (lt-leb m (length v) f)
 
-              pub slots_end : m ≤ length v → 0 ≡ slots_number divides p n e t a b c v
+              pub slots_end : m ≤ length v → slots_number divides p n e t a b c v ≡ 0
               slots_end f = slots_last true (le-leb m (length v) f)
 
 -- ---- the words that a product uses

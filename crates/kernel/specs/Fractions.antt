@@ -1,35 +1,33 @@
 -- What the parts of the fraction's call give.
-use Rattle.std.specs.Prelude.{ℕ, ◌*◌, ◌%◌, ◌≡◌, ℤ}
+--
+-- fraction_of == the call's answer and residue by what its body comes to
+-- Quotient    == n times the inverse of e modulo p, or number 10;  Divided, Shared == the two cases
+use Rattle.std.specs.Prelude.{ℕ, ◌*◌, ◌%◌, ◌≡◌, ℤ, Result, Ok, Err}
 use Rattle.residue.specs.Word.{mod_z}
-use Rattle.kernel.specs.declared.Answer.{Answer}
-use Rattle.kernel.specs.declared.Answer.TheVariants.{Done, Factor, Refused}
+use Rattle.kernel.specs.Answers.{number_of}
+use Rattle.kernel.specs.Refusals.{no_residue}
+use Rattle.kernel.specs.declared.Answer.TheVariants.{Done, Refused}
 use Rattle.kernel.specs.declared.FractionResidue.{FractionResidue}
+use Rattle.kernel.specs.declared.refusals.Refusal.{Refusal}
 use Rattle.residue.specs.Number.{UnitOf, FactorOf}
 
--- refused with a number, and the residue 0
-pub record NoFraction (k : ℕ) (r : FractionResidue) : Type 0 where
-  pub answer : r.answer ≡ Refused k
-  pub residue : r.residue ≡ 0
+-- the residue, or 0 beside a refusal
+abbrev pub fraction_of : Result ℕ Refusal → FractionResidue
+fraction_of (Ok residue) = record { answer = Done; residue = residue }
+fraction_of (Err refusal) = record { answer = Refused (number_of refusal); residue = 0 }
 
 -- u inverts e modulo p, and the residue is n times u
-pub record Divided (n : ℤ) (e p : ℕ) (r : FractionResidue) : Type 0 where
+pub record Divided (n : ℤ) (e p residue : ℕ) : Type 0 where
   pub unit : ℕ
   pub inverts : UnitOf p (e % p) unit
-  pub answer : r.answer ≡ Done
-  pub residue : r.residue ≡ (mod_z n p * unit) % p
+  pub is : residue ≡ (mod_z n p * unit) % p
 
 -- h above 1 divides both
-pub record Shared (e p : ℕ) (r : FractionResidue) : Type 0 where
+pub record Shared (e p : ℕ) : Type 0 where
   pub divisor : ℕ
   pub shared : FactorOf p (e % p) divisor
-  pub none : NoFraction 10 r
-
--- by the kind of the answer
-abbrev pub QuotientBy : Answer → ℤ → ℕ → ℕ → FractionResidue → Type 0
-QuotientBy Done n e p r = Divided n e p r
-QuotientBy (Factor l) n e p r = ⊥
-QuotientBy (Refused k) n e p r = Shared e p r
 
 -- what the quotient of n by e gives
-abbrev pub Quotient : ℤ → ℕ → ℕ → FractionResidue → Type 0
-Quotient n e p r = QuotientBy r.answer n e p r
+abbrev pub Quotient : ℤ → ℕ → ℕ → Result ℕ Refusal → Type 0
+Quotient n e p (Ok residue) = Divided n e p residue
+Quotient n e p (Err refusal) = (number_of refusal ≡ no_residue) × Shared e p

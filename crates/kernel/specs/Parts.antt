@@ -1,12 +1,12 @@
 -- What the parts of a call ask for and give behind its tests: at level 0, and once a remainder sequence has run.
 --
 -- NumberReady, NumberGiven == the inverse at level 0
--- FactorFits               == a shown factor's words stand in the work store, and the factor buffer has room for them
+-- StopReady, StopGiven     == the answer where a sequence stopped: a shown factor's words stand in the work store, and the factor buffer has room for them
 -- EndedReady, EndedGiven   == the answer of an inverse above level 0, whose words stand in the work store
 -- NeededReady              == the slots and the shape of which the GCD's work words are counted
 -- SoughtReady, SoughtDone  == the sequence of a GCD
 -- FoundReady, FoundGiven   == the answer of a GCD, whose words stand in the work store;  GreatestFits, GreatestGiven == where it is a polynomial
-use Rattle.std.specs.Prelude.{ℕ, ◌+◌, ◌-◌, ◌*◌, ◌^◌, ◌<◌, ◌≤◌, ◌≡◌, List, ℤ, T, length, get_or}
+use Rattle.std.specs.Prelude.{ℕ, ◌+◌, ◌-◌, ◌*◌, ◌^◌, ◌<◌, ◌≤◌, ◌≡◌, List, ℤ, T, length, get_or, Result, Ok, Err}
 use Rattle.residue.specs.Word.{num}
 use Rattle.tower.specs.Form.{seg}
 use Rattle.tower.specs.Limits.{p_ok, p_positive, degrees_of, slot_count}
@@ -15,13 +15,12 @@ use Rattle.tower.specs.Store.{Kept, Put}
 use Rattle.euclid.specs.Gcd.{gcd as gcd-of}
 use Rattle.polynomials.specs.Slots.{Finished}
 use Rattle.sequences.specs.Gcds.{Finds}
-use Rattle.sequences.specs.declared.Ended.{Ended}
-use Rattle.sequences.specs.declared.Ended.TheVariants.{Inverse, Divisor, Endless}
-use Rattle.sequences.specs.declared.Found.{Found}
-use Rattle.sequences.specs.declared.Found.TheVariants.{Greatest, Divides, Never}
+use Rattle.sequences.specs.declared.Greatest.{Greatest}
+use Rattle.sequences.specs.declared.Stop.{Stop}
+use Rattle.sequences.specs.declared.Stop.TheVariants.{Factor as FactorOf, Long}
 use Rattle.kernel.specs.declared.Answer.{Answer}
 use Rattle.kernel.specs.declared.Answer.TheVariants.{Done, Factor, Refused}
-use Rattle.kernel.specs.declared.Shape.{Shape}
+use Rattle.kernel.specs.declared.shape.Shape.{Shape}
 use Rattle.kernel.specs.Answered.{factor_buffer, tower_in, level_of}
 use Rattle.kernel.specs.Calls.{coefficients_of}
 use Rattle.kernel.specs.Gcds.{gcd_needed, gcd_number}
@@ -40,21 +39,26 @@ pub record NumberReady (p n : ℤ) (e t c r f : List ℤ) : Type 0 where
 pub record NumberGiven (p n : ℤ) (e t c r f : List ℤ) (k : Answer) (r' f' : List ℤ) : Type 0 where
   pub given : (v : List ℤ) → inverse_number p n e t c r f v ≡ 0 → InverseGiven p n e t c r f v k r' f' v
 
--- ---- a factor of the level l at a place of the store v, the sizes z being those of the levels
-abbrev pub FactorFits : (l at : ℕ) → List ℕ → (v f : List ℤ) → Type 0
-FactorFits l at z v f = (l < 5) × (at + get_or z l 0 ≤ length v) × (get_or z l 0 ≤ length f)
+-- ---- where a sequence stopped
+-- a factor of the level l has its words at a place of the store v, and there is room for them
+abbrev pub StopReady : Stop → Shape → (v f : List ℤ) → Type 0
+StopReady (FactorOf l at) s v f = (l < 5) × (at + get_or s.sizes l 0 ≤ length v) × (get_or s.sizes l 0 ≤ length f)
+StopReady Long s v f = Unit {0}
 
--- ---- the answer of an inverse: its s words, or those of a factor, stand at a place of the store v, and there is room for them
-abbrev pub EndedReady : Ended → List ℕ → ℕ → (v r f : List ℤ) → Type 0
-EndedReady (Inverse at) z s v r f = (at + s ≤ length v) × (s ≤ length r)
-EndedReady (Divisor l at) z s v r f = FactorFits l at z v f
-EndedReady Endless z s v r f = Unit {0}
+-- the answer k, and f behind it
+abbrev pub StopGiven : Stop → Shape → (v f : List ℤ) → Answer → (f' : List ℤ) → Type 0
+StopGiven (FactorOf l at) s v f k f' = (k ≡ Factor l) × (f' ≡ factor_buffer f (seg at (get_or s.sizes l 0) v))
+StopGiven Long s v f k f' = (k ≡ Refused too_long) × (f' ≡ f)
+
+-- ---- the answer of an inverse: its s.size words, or those of a factor, stand at a place of the store v, and there is room for them
+abbrev pub EndedReady : Result ℕ Stop → Shape → (v r f : List ℤ) → Type 0
+EndedReady (Ok at) s v r f = (at + s.size ≤ length v) × (s.size ≤ length r)
+EndedReady (Err stop) s v r f = StopReady stop s v f
 
 -- the answer k, and r and f behind it
-abbrev pub EndedGiven : Ended → List ℕ → ℕ → (v r f : List ℤ) → Answer → (r' f' : List ℤ) → Type 0
-EndedGiven (Inverse at) z s v r f k r' f' = (k ≡ Done) × Put 0 (seg at s v) r r' × (f' ≡ f)
-EndedGiven (Divisor l at) z s v r f k r' f' = (k ≡ Factor l) × (r' ≡ r) × (f' ≡ factor_buffer f (seg at (get_or z l 0) v))
-EndedGiven Endless z s v r f k r' f' = (k ≡ Refused too_long) × (r' ≡ r) × (f' ≡ f)
+abbrev pub EndedGiven : Result ℕ Stop → Shape → (v r f : List ℤ) → Answer → (r' f' : List ℤ) → Type 0
+EndedGiven (Ok at) s v r f k r' f' = (k ≡ Done) × Put 0 (seg at s.size v) r r' × (f' ≡ f)
+EndedGiven (Err stop) s v r f k r' f' = (r' ≡ r) × StopGiven stop s v f k f'
 
 -- ---- the work words of a GCD
 pub record NeededReady (i : ℕ) (d : List ℕ) (s : ℕ) (a b : List ℤ) : Type 0 where
@@ -72,7 +76,7 @@ pub record SoughtReady (p n : ℤ) (e t a b v : List ℤ) : Type 0 where
   pub passed : gcd_number p n e t a b g f v ≡ 0
 
 -- it found o, whose words stand below top, and has changed no word behind those that it needs
-pub record SoughtDone (p n : ℤ) (e t a b v w : List ℤ) (o : Found) : Type 0 where
+pub record SoughtDone (p n : ℤ) (e t a b v w : List ℤ) (o : Result Greatest Stop) : Type 0 where
   pub top : ℕ
   pub inside : top ≤ length w
   pub kept : Kept 0 (gcd_needed n e a b) v w
@@ -95,13 +99,11 @@ pub record GreatestGiven (at k : ℕ) (s : Shape) (v g g' : List ℤ) : Type 0 w
   pub put : Put 1 (seg at (k * s.size) v) g copied
   pub ended : Finished s.levels (slot_count s.size (length g)) k (slot_count s.size (length g) - k) s.degrees copied g'
 
-abbrev pub FoundReady : Found → Shape → (v g f : List ℤ) → Type 0
-FoundReady (Greatest at k) s v g f = GreatestFits at k s v g
-FoundReady (Divides l at) s v g f = FactorFits l at s.sizes v f
-FoundReady Never s v g f = Unit {0}
+abbrev pub FoundReady : Result Greatest Stop → Shape → (v g f : List ℤ) → Type 0
+FoundReady (Ok m) s v g f = GreatestFits m.at m.count s v g
+FoundReady (Err stop) s v g f = StopReady stop s v f
 
 -- the answer r, and g and f behind it
-abbrev pub FoundGiven : Found → Shape → (v g f : List ℤ) → Answer → (g' f' : List ℤ) → Type 0
-FoundGiven (Greatest at k) s v g f r g' f' = (r ≡ Done) × GreatestGiven at k s v g g' × (f' ≡ f)
-FoundGiven (Divides l at) s v g f r g' f' = (r ≡ Factor l) × (g' ≡ g) × (f' ≡ factor_buffer f (seg at (get_or s.sizes l 0) v))
-FoundGiven Never s v g f r g' f' = (r ≡ Refused too_long) × (g' ≡ g) × (f' ≡ f)
+abbrev pub FoundGiven : Result Greatest Stop → Shape → (v g f : List ℤ) → Answer → (g' f' : List ℤ) → Type 0
+FoundGiven (Ok m) s v g f r g' f' = (r ≡ Done) × GreatestGiven m.at m.count s v g g' × (f' ≡ f)
+FoundGiven (Err stop) s v g f r g' f' = (g' ≡ g) × StopGiven stop s v f r f'

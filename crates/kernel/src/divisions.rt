@@ -3,13 +3,16 @@
 ghost use Rattle.std.specs.Prelude.{◌≡◌, true, ◌&&◌, leb, length};
 ghost use Rattle.tower.specs.Form.{slot_form, same, seg, one_words};
 ghost use Rattle.tower.specs.Limits.{slot_length, slot_count};
+ghost use Rattle.kernel.specs.Answers.{answer_of};
 ghost use Rattle.kernel.specs.Divisions.{division_number, monic_words};
 ghost use Rattle.kernel.specs.Promises.{DivisionGiven};
-ghost use Rattle.kernel.specs.Shape.{Known};
+ghost use Rattle.kernel.specs.Shape.{Known, Checked};
 
-use super::numbers::{NOT_MONIC, coefficients, shape_of};
-use super::slots::slots_number;
-use super::{Answer, Shape};
+use super::Answer;
+use super::refusals::Refusal;
+use super::shape::Shape;
+use super::slots::slots_checked;
+use super::towers::Tower;
 use polynomials::slots::divide;
 use tower::form::{coefficient_at, one_at};
 use tower::store::clear;
@@ -23,64 +26,49 @@ pub fn monic(s: Shape, p: u64, b: &[i64]) -> bool
     ensures { result ≡ monic_words s.degrees s.levels s.size b.now }
 {
     let c = count_at(b, 0);
-    if c == 0 {
-        return false;
-    }
-    one_at(s.levels, b, coefficient_at(0, c - 1, s.size))
+    c != 0 && one_at(s.levels, b, coefficient_at(0, c - 1, s.size))
 }
 
-// Number 1 to 8 or 0.
-pub fn division_number(
-    p: i64,
-    n: i64,
-    e: [i64; 4],
-    t: &[i64],
+// The shape, where b is monic too. Refuses 1 to 8.
+pub fn division_checked(
+    tower: Tower<'_>,
     a: &[i64],
     b: &[i64],
     q: &[i64],
     v: &[i64],
-) -> usize
-    ensures { result ≡ division_number p n e t.now a.now b.now q.now v.now }
+) -> Result<Shape, Refusal>
+    ensures { let x = tower.entry in Checked (division_number x.p x.n x.e x.t.now a.now b.now q.now v.now) x.n x.e result }
 {
-    let number = slots_number(true, p, n, e, t, a, b, q, v);
-    if 0 < number {
-        return number;
+    let s = slots_checked(true, tower, a, b, q, v)?;
+    if !monic(s, tower.modulus(), b) {
+        return Err(Refusal::NotMonic);
     }
-    if !monic(shape_of(n, e), residue::number(p), b) {
-        return NOT_MONIC;
-    }
-    0
+    Ok(s)
 }
 
 // The remainder of a by b in a's own slot, and the quotient in q.
 pub fn parted(
-    p: i64,
-    n: i64,
-    e: [i64; 4],
-    t: &[i64],
+    tower: Tower<'_>,
     a: &mut [i64],
     b: &[i64],
     q: &mut [i64],
     v: &mut [i64],
-) -> Answer
-    ensures { DivisionGiven p n e t.now a.old b.now q.old v.old result a.new q.new v.new }
+) -> Result<Answer, Refusal>
+    ensures { let x = tower.entry in DivisionGiven x.p x.n x.e x.t.now a.old b.now q.old v.old (answer_of result) a.new q.new v.new }
 {
-    let number = division_number(p, n, e, t, a, b, q, v);
-    if 0 < number {
-        return Answer::Refused(number);
-    }
-    let s = shape_of(n, e);
+    let s = division_checked(tower, a, b, q, v)?;
     let d = s.degrees;
     let z = s.sizes;
-    let k = coefficients(s.size, a.len());
-    let l = coefficients(s.size, q.len());
+    let p = tower.modulus();
+    let k = s.coefficients(a);
+    let l = s.coefficients(q);
     if s.levels == 0 {
         // level 0 needs one word to work in, and no work words
         let mut word = [0i64; 1];
-        divide(0, k, l, d, z, residue::number(p), t, a, b, q, &mut word);
-        return Answer::Done;
+        divide(0, k, l, d, z, p, tower.t, a, b, q, &mut word);
+        return Ok(Answer::Done);
     }
-    divide(s.levels, k, l, d, z, residue::number(p), t, a, b, q, v);
+    divide(s.levels, k, l, d, z, p, tower.t, a, b, q, v);
     clear(v, 0, product_work(s.levels, d));
-    Answer::Done
+    Ok(Answer::Done)
 }

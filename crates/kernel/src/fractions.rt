@@ -1,31 +1,31 @@
 // The residue of a fraction whose denominator is positive.
 ghost use Rattle.std.specs.Prelude.{◌≡◌, ◌<◌, ◌^◌};
-ghost use Rattle.kernel.specs.Fractions.{Quotient, NoFraction};
+ghost use Rattle.kernel.specs.Fractions.{Quotient, fraction_of};
+ghost use Rattle.kernel.specs.Promises.{FractionGiven};
 
-use super::numbers::NO_RESIDUE;
-use super::{Answer, FractionResidue};
-use residue::Inverse;
+use super::refusals::Refusal;
+use tower::limits::p_ok;
 
-// A refusal, with the residue 0.
-pub fn no_fraction(number: usize) -> FractionResidue
-    ensures { NoFraction number result }
-{
-    FractionResidue {
-        answer: Answer::Refused(number),
-        residue: 0,
-    }
-}
-
-// n times the inverse of e modulo p, or refused.
-pub fn quotient(n: i64, e: u64, p: u64) -> FractionResidue
+// n times the inverse of e modulo p. Refuses 10.
+pub fn quotient(n: i64, e: u64, p: u64) -> Result<u64, Refusal>
     requires { (1 < p) × (p < 2 ^ 32) }
     ensures { Quotient n e p result }
 {
     match residue::rows::inverse(e % p, p) {
-        Inverse::Unit(u) => FractionResidue {
-            answer: Answer::Done,
-            residue: residue::multiply(residue::residue_of(n, p), u, p),
-        },
-        Inverse::Factor(_) => no_fraction(NO_RESIDUE),
+        Ok(u) => Ok(residue::multiply(residue::residue_of(n, p), u, p)),
+        Err(_) => Err(Refusal::NoResidue),
     }
+}
+
+// The residue of n/e modulo p. Refuses 1 and 10.
+pub fn fraction(p: i64, n: i64, e: i64) -> Result<u64, Refusal>
+    ensures { FractionGiven p n e (fraction_of result) }
+{
+    if !p_ok(p) {
+        return Err(Refusal::BadModulus);
+    }
+    if e <= 0 {
+        return Err(Refusal::NoResidue);
+    }
+    quotient(n, residue::number(e), residue::number(p))
 }

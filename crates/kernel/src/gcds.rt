@@ -3,23 +3,24 @@
 // The work store has a slot for a copy of a, one for a copy of b, two elements for the inverses of their leading coefficients, and the inverse's words.
 ghost use Rattle.std.specs.Prelude.{◌≡◌, ◌+◌, ◌*◌};
 ghost use Rattle.tower.specs.Work.{inverse_work};
+ghost use Rattle.kernel.specs.Answers.{answer_of};
 ghost use Rattle.kernel.specs.Gcds.{gcd_number, gcd_room};
 ghost use Rattle.kernel.specs.Parts.{NeededReady, SoughtReady, SoughtDone, FoundReady, FoundGiven};
 ghost use Rattle.kernel.specs.Promises.{GcdGiven};
+ghost use Rattle.kernel.specs.Shape.{ShapeOf, Checked};
 ghost use Rattle.kernel.specs.Slots.{degree_count};
 
-use super::inverses::show;
-use super::numbers::{
-    BAD_FORM, BAD_LENGTH, SMALL_ANSWER, SMALL_WORK, TOO_LONG, coefficients, shape_of, tower_number,
-};
+use super::Answer;
+use super::refusals::Refusal;
+use super::shape::Shape;
 use super::slots::three_lengths_ok;
-use super::sums::forms_ok;
-use super::{Answer, Shape};
+use super::stops::stopped;
+use super::towers::Tower;
+use arithmetic::places::Source;
 use polynomials::slots::finish;
-use sequences::gcd::{gcd, larger};
-use sequences::{Found, Led};
+use sequences::gcd::gcd;
+use sequences::{Greatest, Led, Stop};
 use tower::form::coefficient_at;
-use tower::sizes::size_at;
 use tower::store::{clear, copy_in};
 use tower::words::count_at;
 use tower::work::{gcd_work, inverse_work};
@@ -28,7 +29,7 @@ use tower::work::{gcd_work, inverse_work};
 pub fn gcd_room(ca: usize, cb: usize) -> usize
     ensures { result ≡ gcd_room ca cb }
 {
-    larger(1, larger(ca, cb))
+    ca.max(cb).max(1)
 }
 
 // The work words that a GCD of a and b needs at level i, whose elements have s words.
@@ -39,50 +40,48 @@ pub fn gcd_needed(i: usize, d: [usize; 4], s: usize, a: &[i64], b: &[i64]) -> us
     gcd_work(count_at(a, 0), count_at(b, 0), s, inverse_work(i, d))
 }
 
-// Number 1 to 7 or 0, of a tower, the slots a and b over it, the answer's slot g, the factor buffer f and a work store v.
-pub fn gcd_number(
-    p: i64,
-    n: i64,
-    e: [i64; 4],
-    t: &[i64],
+// The shape, where a and b are slots over the tower, the answer's slot g has room, f is a factor buffer and v has the work words. Refuses 1 to 7.
+pub fn gcd_checked(
+    tower: Tower<'_>,
     a: &[i64],
     b: &[i64],
     g: &[i64],
     f: &[i64],
     v: &[i64],
-) -> usize
-    ensures { result ≡ gcd_number p n e t.now a.now b.now g.now f.now v.now }
+) -> Result<Shape, Refusal>
+    ensures { let x = tower.entry in Checked (gcd_number x.p x.n x.e x.t.now a.now b.now g.now f.now v.now) x.n x.e result }
 {
-    let number = tower_number(p, n, e, t);
-    if 0 < number {
-        return number;
-    }
-    let s = shape_of(n, e);
+    let s = tower.checked()?;
     if !three_lengths_ok(s.size, a.len(), b.len(), g.len()) {
-        return BAD_LENGTH;
+        return Err(Refusal::BadLength);
     }
     if f.len() != s.size {
-        return BAD_LENGTH;
+        return Err(Refusal::BadLength);
     }
-    if !forms_ok(s, residue::number(p), a, b) {
-        return BAD_FORM;
+    if !s.slots_ok(tower.modulus(), a, b) {
+        return Err(Refusal::BadForm);
     }
-    if coefficients(s.size, g.len()) < gcd_room(count_at(a, 0), count_at(b, 0)) {
-        return SMALL_ANSWER;
+    if s.coefficients(g) < gcd_room(count_at(a, 0), count_at(b, 0)) {
+        return Err(Refusal::SmallAnswer);
     }
     let d = s.degrees;
     if v.len() < gcd_needed(s.levels, d, s.size, a, b) {
-        return SMALL_WORK;
+        return Err(Refusal::SmallWork);
     }
-    0
+    Ok(s)
 }
 
 // Copies of a and b laid into the work store, and the sequence run on them.
-pub fn sought(p: i64, n: i64, e: [i64; 4], t: &[i64], a: &[i64], b: &[i64], v: &mut [i64]) -> Found
-    requires { SoughtReady p n e t.now a.now b.now v.old }
-    ensures { SoughtDone p n e t.now a.now b.now v.old v.new result }
+pub fn sought(
+    tower: Tower<'_>,
+    s: Shape,
+    a: &[i64],
+    b: &[i64],
+    v: &mut [i64],
+) -> Result<Greatest, Stop>
+    requires { ShapeOf tower.n tower.e s × SoughtReady tower.p tower.n tower.e tower.t.now a.now b.now v.old }
+    ensures { let x = tower.entry in SoughtDone x.p x.n x.e x.t.now a.now b.now v.old v.new result }
 {
-    let s = shape_of(n, e);
     let d = s.degrees;
     let z = s.sizes;
     let ca = count_at(a, 0);
@@ -104,66 +103,54 @@ pub fn sought(p: i64, n: i64, e: [i64; 4], t: &[i64], a: &[i64], b: &[i64], v: &
         count: cb,
     };
     let top = unit + 2 * s.size;
-    gcd(
-        s.levels,
-        d,
-        z,
-        residue::number(p),
-        t,
-        false,
-        0,
-        x,
-        y,
-        v,
-        top,
-    )
+    let words = Source {
+        lent: tower.t,
+        stored: false,
+        at: 0,
+    };
+    gcd(s.levels, d, z, tower.modulus(), words, x, y, v, top)
 }
 
-// The answer by what the sequence found: the words of a GCD copied into g, with zeros behind them, or those of a factor into f.
-pub fn found_answer(o: Found, s: Shape, v: &[i64], g: &mut [i64], f: &mut [i64]) -> Answer
-    requires { FoundReady o s v.now g.old f.old }
-    ensures { FoundGiven o s v.now g.old f.old result g.new f.new }
+// The answer by what the sequence found: the words of a GCD copied into g, with zeros behind them, or a stop told.
+pub fn found_answer(
+    found: Result<Greatest, Stop>,
+    s: Shape,
+    v: &[i64],
+    g: &mut [i64],
+    f: &mut [i64],
+) -> Answer
+    requires { FoundReady found s v.now g.old f.old }
+    ensures { FoundGiven found s v.now g.old f.old result g.new f.new }
 {
     let d = s.degrees;
     let z = s.sizes;
-    match o {
-        Found::Greatest(at, count) => {
-            let k = coefficients(s.size, g.len());
+    match found {
+        Ok(Greatest { at, count }) => {
+            let k = s.coefficients(g);
             copy_in(v, at, g, 1, count * s.size);
             finish(s.levels, k, count, k - count, d, z, g);
             Answer::Done
         }
-        Found::Divides(level, at) => {
-            show(v, at, size_at(z, level), f);
-            Answer::Factor(level)
-        }
-        Found::Never => Answer::Refused(TOO_LONG),
+        Err(stop) => stopped(stop, s, v, f),
     }
 }
 
 // The GCD of a and b into g, or a factor into f, and the work words that it needs cleared.
 pub fn found(
-    p: i64,
-    n: i64,
-    e: [i64; 4],
-    t: &[i64],
+    tower: Tower<'_>,
     a: &[i64],
     b: &[i64],
     g: &mut [i64],
     f: &mut [i64],
     v: &mut [i64],
-) -> Answer
-    ensures { GcdGiven p n e t.now a.now b.now g.old f.old v.old result g.new f.new v.new }
+) -> Result<Answer, Refusal>
+    ensures { let x = tower.entry in GcdGiven x.p x.n x.e x.t.now a.now b.now g.old f.old v.old (answer_of result) g.new f.new v.new }
 {
-    let number = gcd_number(p, n, e, t, a, b, g, f, v);
-    if 0 < number {
-        return Answer::Refused(number);
-    }
-    let s = shape_of(n, e);
+    let s = gcd_checked(tower, a, b, g, f, v)?;
     let d = s.degrees;
     let needed = gcd_needed(s.levels, d, s.size, a, b);
-    let o = sought(p, n, e, t, a, b, v);
+    let o = sought(tower, s, a, b, v);
     let answer = found_answer(o, s, v, g, f);
     clear(v, 0, needed);
-    answer
+    Ok(answer)
 }

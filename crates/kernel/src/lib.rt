@@ -1,6 +1,8 @@
 // The public calls. None has a `requires`: what a call cannot do it refuses, by the first number of document 01's table that applies. What each gives is in
 // specs/Calls.antt, Views.antt, Sums.antt, Products.antt, Divisions.antt, Inverses.antt and Gcds.antt, and the promises cite it by name (specs/Promises.antt).
 // The modules are private: what stands in them is no call.
+//
+// Stays: each call takes p, N, the degrees and the tower's words one by one, as document 01 and the C interface have them.
 #![tactic(auto)]
 
 mod divisions;
@@ -8,24 +10,28 @@ mod fractions;
 mod gcds;
 mod inverses;
 mod multiplication;
-mod numbers;
+mod refusals;
+mod shape;
 mod slots;
+mod stops;
 mod sums;
+mod towers;
 mod views;
 
 ghost use Rattle.kernel.specs.Promises.{TowerChecked, SlotChecked, SizesGiven, FractionGiven, LeadingShown, SumGiven, ProductGiven, DivisionGiven, InverseGiven, GcdGiven};
 ghost use Rattle.std.specs.Prelude.{true, false};
 
 use divisions::parted;
-use fractions::{no_fraction, quotient};
+use fractions::fraction;
 use gcds::found;
 use inverses::inverted;
 use multiplication::multiplied;
-use numbers::{BAD_MODULUS, NO_RESIDUE, answer, shape_of, slot_number, tower_number, work_number};
+use refusals::answer;
+use shape::work_checked;
 use sums::gained;
-use tower::limits::p_ok;
 use tower::words::count;
 use tower::work::{gcd_work, inverse_work, product_work};
+use towers::Tower;
 use views::leading;
 
 // Done, a shown factor with its level, or a refusal with its number.
@@ -37,6 +43,7 @@ pub enum Answer {
 }
 
 // The work sizes M(N), I(N) and the GCD's number; zeros beside a refusal.
+// Stays: a public type, of which the promises and theorems of specs/Promises.antt speak.
 #[derive(Clone, Copy)]
 pub struct WorkSizes {
     pub answer: Answer,
@@ -46,49 +53,42 @@ pub struct WorkSizes {
 }
 
 // The residue of a fraction; 0 beside a refusal.
+// Stays: a public type, of which the promises and theorems of specs/Promises.antt speak.
 #[derive(Clone, Copy)]
 pub struct FractionResidue {
     pub answer: Answer,
     pub residue: u64,
 }
 
-// What N and the degrees come to once they are in range: the levels, the four degrees, S_0 to S_4, and S_N.
-#[derive(Clone, Copy)]
-struct Shape {
-    pub levels: usize,
-    pub degrees: [usize; 4],
-    pub sizes: [usize; 5],
-    pub size: usize,
-}
-
 // Check of a tower: whether p, N, the degrees and the words are those of a tower. Refuses 1 to 3. Writes nothing.
 pub fn check_tower(p: i64, n: i64, e: [i64; 4], t: &[i64]) -> Answer
     ensures checked { TowerChecked p n e t.now result }
 {
-    answer(tower_number(p, n, e, t))
+    answer(Tower { p, n, e, t }.checked().map(|_| Answer::Done))
 }
 
 // Check of a slot: whether a is a slot over the tower, in form. Refuses 1 to 5. Writes nothing.
 pub fn check_slot(p: i64, n: i64, e: [i64; 4], t: &[i64], a: &[i64]) -> Answer
     ensures checked { SlotChecked p n e t.now a.now result }
 {
-    answer(slot_number(p, n, e, t, a))
+    answer(Tower { p, n, e, t }.slot_checked(a).map(|_| Answer::Done))
 }
 
 // The work sizes for a tower of n levels and polynomials of the degrees a and b. Refuses 2 and 5. Writes nothing.
 pub fn work_sizes(n: i64, e: [i64; 4], a: i64, b: i64) -> WorkSizes
     ensures given { SizesGiven n e a b result }
 {
-    let number = work_number(n, e, a, b);
-    if 0 < number {
-        return WorkSizes {
-            answer: Answer::Refused(number),
-            product: 0,
-            inverse: 0,
-            gcd: 0,
-        };
-    }
-    let s = shape_of(n, e);
+    let s = match work_checked(n, e, a, b) {
+        Ok(s) => s,
+        Err(refusal) => {
+            return WorkSizes {
+                answer: refusal.into(),
+                product: 0,
+                inverse: 0,
+                gcd: 0,
+            };
+        }
+    };
     let d = s.degrees;
     let product = product_work(s.levels, d);
     let inverse = inverse_work(s.levels, d);
@@ -105,13 +105,16 @@ pub fn work_sizes(n: i64, e: [i64; 4], a: i64, b: i64) -> WorkSizes
 pub fn residue_of_fraction(p: i64, n: i64, e: i64) -> FractionResidue
     ensures given { FractionGiven p n e result }
 {
-    if !p_ok(p) {
-        return no_fraction(BAD_MODULUS);
+    match fraction(p, n, e) {
+        Ok(residue) => FractionResidue {
+            answer: Answer::Done,
+            residue,
+        },
+        Err(refusal) => FractionResidue {
+            answer: refusal.into(),
+            residue: 0,
+        },
     }
-    if e <= 0 {
-        return no_fraction(NO_RESIDUE);
-    }
-    quotient(n, residue::number(e), residue::number(p))
 }
 
 // The leading view: the words of the leading coefficient of a or b, whichever has the higher degree, a's where they are equal, as a part of that slot itself;
@@ -126,21 +129,21 @@ pub fn leading_view<'a>(
 ) -> &'a [i64]
     ensures shown { LeadingShown p n e t.now a.now b.now result.now }
 {
-    leading(p, n, e, t, a, b)
+    leading(Tower { p, n, e, t }, a, b)
 }
 
 // Sum: a + b, which replaces a. Refuses 1 to 6. Writes a's slot, the whole of it after Done and nothing when refused.
 pub fn sum(p: i64, n: i64, e: [i64; 4], t: &[i64], a: &mut [i64], b: &[i64]) -> Answer
     ensures given { SumGiven false p n e t.now a.old b.now result a.new }
 {
-    gained(false, p, n, e, t, a, b)
+    answer(gained(false, Tower { p, n, e, t }, a, b))
 }
 
 // Difference: a - b, which replaces a. Refuses 1 to 6. Writes a's slot, the whole of it after Done and nothing when refused.
 pub fn difference(p: i64, n: i64, e: [i64; 4], t: &[i64], a: &mut [i64], b: &[i64]) -> Answer
     ensures given { SumGiven true p n e t.now a.old b.now result a.new }
 {
-    gained(true, p, n, e, t, a, b)
+    answer(gained(true, Tower { p, n, e, t }, a, b))
 }
 
 // Product: a times b, into c. Refuses 1 to 7. After Done it has written the whole of c's slot and M(N) words 0 in the work store v; when refused nothing.
@@ -156,7 +159,7 @@ pub fn product(
 ) -> Answer
     ensures given { ProductGiven p n e t.now a.now b.now c.old v.old result c.new v.new }
 {
-    multiplied(p, n, e, t, a, b, c, v)
+    answer(multiplied(Tower { p, n, e, t }, a, b, c, v))
 }
 
 // Division by a monic b: the remainder replaces a, the quotient goes into q. Refuses 1 to 8. After Done it has written the whole of both slots and M(N)
@@ -173,7 +176,7 @@ pub fn division(
 ) -> Answer
     ensures given { DivisionGiven p n e t.now a.old b.now q.old v.old result a.new q.new v.new }
 {
-    parted(p, n, e, t, a, b, q, v)
+    answer(parted(Tower { p, n, e, t }, a, b, q, v))
 }
 
 // Inverse of an element c: the inverse goes into the element r. Refuses 1 to 5, 7, 9, 11. After Done it has written r; where it shows a factor, the factor
@@ -190,7 +193,7 @@ pub fn inverse(
 ) -> Answer
     ensures given { InverseGiven p n e t.now c.now r.old f.old v.old result r.new f.new v.new }
 {
-    inverted(p, n, e, t, c, r, f, v)
+    answer(inverted(Tower { p, n, e, t }, c, r, f, v))
 }
 
 // GCD: of a and b, into g. Refuses 1 to 7, 11. After Done it has written the whole of g's slot; where it shows a factor, the factor buffer f and not g;
@@ -208,5 +211,5 @@ pub fn gcd(
 ) -> Answer
     ensures given { GcdGiven p n e t.now a.now b.now g.old f.old v.old result g.new f.new v.new }
 {
-    found(p, n, e, t, a, b, g, f, v)
+    answer(found(Tower { p, n, e, t }, a, b, g, f, v))
 }

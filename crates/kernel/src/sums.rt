@@ -1,17 +1,17 @@
 // Sum and difference: their tests, of which the first are those of the leading view, and the sum in a's own slot.
-ghost use Rattle.std.specs.Prelude.{◌≡◌, true, ◌&&◌, ◌<◌, leb, length};
-ghost use Rattle.tower.specs.Form.{slot_form};
-ghost use Rattle.tower.specs.Limits.{slot_length, slot_count};
+ghost use Rattle.std.specs.Prelude.{◌≡◌, ◌&&◌, ◌<◌, leb, length};
+ghost use Rattle.tower.specs.Limits.{slot_length};
+ghost use Rattle.kernel.specs.Answers.{answer_of};
 ghost use Rattle.kernel.specs.Promises.{SumGiven};
-ghost use Rattle.kernel.specs.Shape.{Known};
+ghost use Rattle.kernel.specs.Shape.{Checked};
 ghost use Rattle.kernel.specs.Slots.{degree_count};
 ghost use Rattle.kernel.specs.Sums.{sum_number};
 ghost use Rattle.kernel.specs.Views.{view_number};
 
-use super::numbers::{
-    BAD_FORM, BAD_LENGTH, SMALL_ANSWER, coefficients, shape_of, slot_ok, tower_number,
-};
-use super::{Answer, Shape};
+use super::Answer;
+use super::refusals::Refusal;
+use super::shape::Shape;
+use super::towers::Tower;
 use arithmetic::sum::gain_row;
 use tower::limits::slot_length;
 use tower::words::count_at;
@@ -21,23 +21,7 @@ pub fn lengths_ok(s: usize, k: usize, l: usize) -> bool
     requires { 0 < s }
     ensures { result ≡ (slot_length s k && slot_length s l) }
 {
-    if !slot_length(s, k) {
-        return false;
-    }
-    slot_length(s, l)
-}
-
-// Both slots are in form.
-pub fn forms_ok(s: Shape, p: u64, a: &[i64], b: &[i64]) -> bool
-    requires { Known s × (slot_length s.size (length a.now) ≡ true) × (slot_length s.size (length b.now) ≡ true) }
-    ensures { result
-        ≡ (slot_form p s.degrees s.levels (slot_count s.size (length a.now)) a.now
-        && slot_form p s.degrees s.levels (slot_count s.size (length b.now)) b.now) }
-{
-    if !slot_ok(s, p, a) {
-        return false;
-    }
-    slot_ok(s, p, b)
+    slot_length(s, k) && slot_length(s, l)
 }
 
 // k coefficients have room for both.
@@ -45,57 +29,42 @@ pub fn room_ok(k: usize, a: &[i64], b: &[i64]) -> bool
     requires { (0 < length a.now) × (0 < length b.now) }
     ensures { result ≡ (leb (degree_count a.now) k && leb (degree_count b.now) k) }
 {
-    if k < count_at(a, 0) {
-        return false;
-    }
-    count_at(b, 0) <= k
+    count_at(a, 0) <= k && count_at(b, 0) <= k
 }
 
-// Number 1 to 5 or 0, of a tower and two slots over it.
-pub fn view_number(p: i64, n: i64, e: [i64; 4], t: &[i64], a: &[i64], b: &[i64]) -> usize
-    ensures { result ≡ view_number p n e t.now a.now b.now }
+// The shape, where a and b are slots over the tower. Refuses 1 to 5.
+pub fn view_checked(tower: Tower<'_>, a: &[i64], b: &[i64]) -> Result<Shape, Refusal>
+    ensures { let x = tower.entry in Checked (view_number x.p x.n x.e x.t.now a.now b.now) x.n x.e result }
 {
-    let number = tower_number(p, n, e, t);
-    if 0 < number {
-        return number;
-    }
-    let s = shape_of(n, e);
+    let s = tower.checked()?;
     if !lengths_ok(s.size, a.len(), b.len()) {
-        return BAD_LENGTH;
+        return Err(Refusal::BadLength);
     }
-    if !forms_ok(s, residue::number(p), a, b) {
-        return BAD_FORM;
+    if !s.slots_ok(tower.modulus(), a, b) {
+        return Err(Refusal::BadForm);
     }
-    0
+    Ok(s)
 }
 
-// Number 1 to 6 or 0, of a tower and two slots over it, the answer in the first.
-pub fn sum_number(p: i64, n: i64, e: [i64; 4], t: &[i64], a: &[i64], b: &[i64]) -> usize
-    ensures { result ≡ sum_number p n e t.now a.now b.now }
+// The shape, where a has room for the sum too. Refuses 1 to 6.
+pub fn sum_checked(tower: Tower<'_>, a: &[i64], b: &[i64]) -> Result<Shape, Refusal>
+    ensures { let x = tower.entry in Checked (sum_number x.p x.n x.e x.t.now a.now b.now) x.n x.e result }
 {
-    let number = view_number(p, n, e, t, a, b);
-    if 0 < number {
-        return number;
+    let s = view_checked(tower, a, b)?;
+    if !room_ok(s.coefficients(a), a, b) {
+        return Err(Refusal::SmallAnswer);
     }
-    let s = shape_of(n, e);
-    if !room_ok(coefficients(s.size, a.len()), a, b) {
-        return SMALL_ANSWER;
-    }
-    0
+    Ok(s)
 }
 
 // a + b, or a - b where neg, in a's slot.
-pub fn gained(neg: bool, p: i64, n: i64, e: [i64; 4], t: &[i64], a: &mut [i64], b: &[i64]) -> Answer
-    ensures { SumGiven neg p n e t.now a.old b.now result a.new }
+pub fn gained(neg: bool, tower: Tower<'_>, a: &mut [i64], b: &[i64]) -> Result<Answer, Refusal>
+    ensures { let x = tower.entry in SumGiven neg x.p x.n x.e x.t.now a.old b.now (answer_of result) a.new }
 {
-    let number = sum_number(p, n, e, t, a, b);
-    if 0 < number {
-        return Answer::Refused(number);
-    }
-    let s = shape_of(n, e);
+    let s = sum_checked(tower, a, b)?;
     let d = s.degrees;
     let z = s.sizes;
-    let k = coefficients(s.size, a.len());
-    gain_row(s.levels, k, neg, residue::number(p), d, z, b, 0, a, 0);
-    Answer::Done
+    let k = s.coefficients(a);
+    gain_row(s.levels, k, neg, tower.modulus(), d, z, b, 0, a, 0);
+    Ok(Answer::Done)
 }

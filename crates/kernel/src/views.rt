@@ -4,8 +4,8 @@ ghost use Rattle.kernel.specs.Promises.{LeadingShown};
 ghost use Rattle.kernel.specs.Slots.{degree_count};
 ghost use Rattle.kernel.specs.Views.{top_words};
 
-use super::numbers::shape_of;
-use super::sums::view_number;
+use super::sums::view_checked;
+use super::towers::Tower;
 use tower::form::coefficient_at;
 use tower::words::count_at;
 
@@ -24,15 +24,15 @@ pub fn leading_words(s: usize, a: &[i64]) -> &[i64]
 }
 
 // The leading coefficient of a or b.
-pub fn leading<'a>(p: i64, n: i64, e: [i64; 4], t: &[i64], a: &'a [i64], b: &'a [i64]) -> &'a [i64]
-    ensures { LeadingShown p n e t.now a.now b.now result.now }
+pub fn leading<'a>(tower: Tower<'_>, a: &'a [i64], b: &'a [i64]) -> &'a [i64]
+    ensures { let x = tower.entry in LeadingShown x.p x.n x.e x.t.now a.now b.now result.now }
 {
-    if 0 < view_number(p, n, e, t, a, b) {
+    let Ok(s) = view_checked(tower, a, b) else {
         return &a[..0];
-    }
-    let s = shape_of(n, e);
+    };
     if count_at(a, 0) < count_at(b, 0) {
-        return leading_words(s.size, b);
+        leading_words(s.size, b)
+    } else {
+        leading_words(s.size, a)
     }
-    leading_words(s.size, a)
 }

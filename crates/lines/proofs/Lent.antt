@@ -4,8 +4,8 @@
 -- degrees_small, levels_low             == what is known then
 -- size-lent, one_lent                   == S_N, or 1
 -- element-lent                          == it is within the factor's store
--- slot_full, slot-part, part_fits       == the longest slot;  slot_lent == it is within the answer's store, and a word longer than an element
-use Prim.Native.Nat.{ℕ, ◌+◌, ◌-◌, ◌*◌, ◌/◌, ◌<◌, ◌≤◌, min}
+-- slot_lent                             == the longest slot is within the answer's store
+use Prim.Native.Nat.{ℕ, ◌-◌, ◌*◌, ◌/◌, ◌<◌, ◌≤◌, min}
 use mathlib.Core.Bool.{Bool, true, false, cond}
 use mathlib.Core.List.{List}
 use mathlib.Core.Logic.{inl}
@@ -89,13 +89,7 @@ module _ (n : ℤ) (e : List ℤ) where
 
 -- ---- the words of a slot
 module _ (s : ℕ) where
-  pub slot_full : 256 < (answer_words - 1) / s → 1 + 256 * s ≡ slot_words s
-  slot_full h = let few : min 256 ((answer_words - 1) / s) ≡ 256 = omega arith in rw few refl
-
-  pub slot-part : (answer_words - 1) / s ≤ 256 → 1 + (answer_words - 1) / s * s ≡ slot_words s
-  slot-part h = let all : min 256 ((answer_words - 1) / s) ≡ (answer_words - 1) / s = omega arith in rw all refl
-
-  pub part_fits : (answer_words - 1) / s * s ≤ answer_words - 1
+  part_fits : (answer_words - 1) / s * s ≤ answer_words - 1
   part_fits = div-mul-le_self (answer_words - 1) s
 
   pub slot_lent : slot_words s ≤ answer_words

@@ -1,11 +1,9 @@
 pub mod Places
 pub mod Slotted
 pub mod LineSays
-pub mod Answering
 pub mod Done
 pub mod States
 pub mod Lent
-pub mod Telling
 pub mod Lending
 pub mod Stepping
 pub mod Operations

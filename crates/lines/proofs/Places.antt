@@ -1,10 +1,9 @@
 -- Laws of words printed by form. Assumes nothing.
 --
--- Down; down_start, down_further == the k-th word of an element is the at-th of one of a lower level
+-- Down; down_further              == the k-th word of an element is the at-th of one of a lower level
 -- own_word, no_degree, some_size == an element's own degree word; a residue is none; a size is not 0
--- degree-place, residue-place    == the text of a word by what it is
 -- place_few, place_most, form_most == a word takes at most 21 bytes; n whole numbers of any size take at most 22 times n
--- Put; put-none, put_more, put_all == the first k words are printed
+-- Put; put-none, put_more          == the first k words are printed
 use mathlib.Core.Path.{◌≡◌, refl, sym, ap, ◌∙◌}
 use mathlib.Core.Bool.{Bool, true, false}
 use mathlib.Core.List.{List}
@@ -12,7 +11,8 @@ use Prim.Native.Nat.{ℕ, zero, suc, ◌+◌, ◌-◌, ◌*◌, ◌%◌, ◌<◌
 use native.Mathlib.Numerals.{add-one}
 use native.Mathlib.Omega.{arith}
 use lib.IntN.{ℤ, pos, negsuc}
-use lib.ListN.{length, get_or, length-append}
+use lib.ListN.{length, get_or, take, length-append}
+use lib.Seq.{get_or-take}
 use mir.Syntax.{w64}
 use mir.Val.{SFits, to_z, of_z}
 use mir.ValLaws.{to_z-of_z}
@@ -22,7 +22,7 @@ use Rattle.text.specs.Appending.{Appended}
 use Rattle.text.specs.Text.{word_text}
 use Rattle.text.specs.Written.{few_digits, twenty_digits}
 use Rattle.text.proofs.Appends.{nothing, then, retold}
-use Rattle.lines.specs.Printing.{degree_at, degree_text, residue_text, place_text, form_text, DegreeTold, FormReady, FormPut}
+use Rattle.lines.specs.Printing.{degree_at, place_text, form_text, DegreeTold, FormReady}
 use Rattle.lines.specs.Written.{form-none, form_more}
 
 -- ---- which words are degree words
@@ -42,9 +42,6 @@ degree-lower d i k = refl
 pub record Down (i k : ℕ) (z : List ℕ) (level at : ℕ) : Type 0 where
   pub low : level ≤ i
   pub same : (d : List ℕ) → Sized d z → degree_at d i k ≡ degree_at d level at
-
-pub down_start : (i k : ℕ) (z : List ℕ) → Down i k z i k
-down_start i k z = record { low = omega arith; same = λ d s. refl }
 
 module _ {i k : ℕ} {z : List ℕ} where
   pub down_further : (level at : ℕ) → Down i k z level at → i ≤ 5 → 0 < level → (at ≡ 0 → ⊥) → (s : ℕ) → s ≡ get_or z (level - 1) 0
@@ -78,13 +75,6 @@ module _ {i k : ℕ} {z : List ℕ} where
       record { is = λ d s. sym (w.same d s ∙ ap (λ (n : ℕ). degree_at d n at) e ∙ degree-none d at) }
 
 -- ---- one word
-module _ (t : Bool) (w : ℤ) (f : SFits w64 w) where
-  pub degree-place : t ≡ true → degree_text (to_z w64 (of_z w64 w)) ≡ place_text t w
-  degree-place e = rw e (ap degree_text (to_z-of_z w64 w f))
-
-  pub residue-place : t ≡ false → residue_text (to_z w64 (of_z w64 w)) ≡ place_text t w
-  residue-place e = rw e (ap residue_text (to_z-of_z w64 w f))
-
 word_few : (w : ℤ) → SFits w64 w → length (word_text w) ≤ 20
 word_few (pos n) f = omega (arith, few_digits 18 n (omega (arith, f.sfits)))
 word_few (negsuc n) f = omega (arith, few_digits 18 (suc n) (omega (arith, f.sfits)))
@@ -124,20 +114,14 @@ put-none {i} {n} {held} {z} {x} {out} r = record {
 }
 
 module _ {i n held : ℕ} {z : List ℕ} {x : List ℤ} {was out : List ℕ} {told k : ℕ} (p : Put i n held z x was out told k) where
-  pub put_more : {t : Bool} {out' : List ℕ} {r : ℕ} → k < n → DegreeTold z i k t → SFits w64 (get_or x k (pos 0))
-      → Appended told (place_text t (to_z w64 (of_z w64 (get_or x k (pos 0))))) out out' r → Put i n held z x was out' r (k + 1)
-  put_more {t} {out'} {r} h b f a =
-      let w = get_or x k (pos 0) in
+  pub put_more : {t : Bool} {w : ℤ} {out' : List ℕ} {r : ℕ} → k < n → DegreeTold z i k t → w ≡ get_or (take n x) k (pos 0) → SFits w64 w
+      → Appended told (place_text t (to_z w64 (of_z w64 w))) out out' r → Put i n held z x was out' r (k + 1)
+  put_more {t} {w} {out'} {r} h b e f a =
+      let word : w ≡ get_or x k (pos 0) = e ∙ get_or-take n x k (pos 0) h in
       let a : Appended told (place_text t w) out out' r = retold (ap (place_text t) (to_z-of_z w64 w f)) a in
       record {
         passed = omega arith;
         long = a.long ∙ p.long;
         room = omega (arith, p.room, a.end, a.long, place_few t w f);
-        puts = λ d s. rw (add-one k) (retold (sym (form_more d i x k ∙ rw (sym (b.is d s)))) (then (p.puts d s) a));
+        puts = λ d s. rw (add-one k) (retold (sym (form_more d i x k ∙ rw (sym (b.is d s), sym word))) (then (p.puts d s) a));
       }
-
-  pub put_all : n ≤ k → FormPut i n held z x was out told
-  put_all h =
-      let e : k ≡ n = omega (arith, p.passed) in
-      let q : FormPut i k held z x was out told = record { puts = p.puts } in
-      rw e at q

@@ -2,6 +2,7 @@
 --
 -- answer_text                  == Done with its words, a factor, or a refusal
 -- gcd_text, div_text, mul_text, inv_text == the lines, of the lists that are lent
+-- name_of, given_text          == the name of an operation and what stands behind `ok`, from what it gives
 -- SlotReady .. AnswerReady, LineReady == what the program's functions ask for
 use Rattle.std.specs.Prelude.{ℕ, ◌+◌, ◌*◌, ◌<◌, ◌≤◌, List, [], ◌∷◌, ◌++◌, ◌≡◌, ℤ, length}
 use Rattle.residue.specs.Word.{num}
@@ -16,6 +17,8 @@ use Rattle.kernel.specs.Divisions.{division}
 use Rattle.kernel.specs.Inverses.{inverse}
 use Rattle.kernel.specs.Gcds.{gcd}
 use Rattle.text.specs.Text.{tab, decimal}
+use Rattle.lines.specs.declared.Given.{Given}
+use Rattle.lines.specs.declared.Given.TheVariants.{Gcd, Div, Mul, Inv}
 use Rattle.lines.specs.Names.{line_end, name_gcd, name_div, name_mul, name_inv, said_ok, said_rem, said_factor, said_refused}
 use Rattle.lines.specs.Printing.{element_text, shortest, slot_text, factor_text}
 
@@ -51,6 +54,19 @@ module _ (p n : ℤ) (e t : List ℤ) where
       let r = inverse p n e t a u f v in
       answer_text name_inv (degrees_of e) r.said (element_text (degrees_of e) (num n) r.words.inverse) r.words.factor
 
+-- ---- what an operation gives
+abbrev pub name_of : Given → List ℕ
+name_of (Gcd g) = name_gcd
+name_of (Div q r) = name_div
+name_of (Mul c) = name_mul
+name_of (Inv u) = name_inv
+
+abbrev pub given_text : (d : List ℕ) (i : ℕ) → Given → List ℕ
+given_text d i (Gcd g) = slot_text d i g.now
+given_text d i (Div q r) = divided d i q.now r.now
+given_text d i (Mul c) = slot_text d i c.now
+given_text d i (Inv u) = element_text d i u.now
+
 -- ---- the parts of the program: a word takes at most 21 bytes
 -- a slot whose coefficients up to its degree are there
 pub record SlotReady (held i : ℕ) (e x : List ℤ) (out : List ℕ) : Type 0 where
@@ -75,6 +91,12 @@ pub record ElementReady (held i : ℕ) (e x : List ℤ) (out : List ℕ) : Type 
   pub small : Small (degrees_of e)
   pub inside : size (degrees_of e) i ≤ length x
   pub room : held + 22 * size (degrees_of e) i ≤ length out
+
+abbrev pub GivenReady : (i : ℕ) (e : List ℤ) → Given → List ℕ → Type 0
+GivenReady i e (Gcd g) out = SlotEnds 6 i e g.now out
+GivenReady i e (Div q r) out = QuotientReady i e q.now r.now out
+GivenReady i e (Mul c) out = SlotEnds 6 i e c.now out
+GivenReady i e (Inv u) out = ElementReady 7 i e u.now out
 
 -- an answer: after Done this is ready to be printed, and with a factor its words are
 pub record AnswerReady (r : Answer) (Ready : Type 0) (e f : List ℤ) (out : List ℕ) : Type 0 where

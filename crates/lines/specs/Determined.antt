@@ -3,7 +3,7 @@
 -- SameStep, stepped_determined == two results that Stepped allows for a line have the same bytes and states
 -- stepped_runs                 == lines answered one after the other print what `run` says
 -- Missing, field_missing       == "An operation that lacks field .. prints its name and `missing` only"
-use Rattle.std.specs.Prelude.{ℕ, suc, false, List, ◌∷◌, ◌++◌, ◌≡◌, refl, ℤ, take}
+use Rattle.std.specs.Prelude.{ℕ, suc, None, List, ◌∷◌, ◌++◌, ◌≡◌, refl, ℤ, take}
 use Rattle.std.proofs.Common.{sym, ◌∙◌}
 use Rattle.std.proofs.Math.Path.{ap₂}
 use Rattle.lines.specs.declared.Kept.{Kept}
@@ -14,15 +14,15 @@ use Rattle.lines.specs.Steps.{State, missing_text, printed, run}
 
 -- ---- one result
 -- two results of a line: as many bytes told, the same bytes, and equal states
-pub record SameStep (r : Kept) (tower a b : List ℤ) (out : List ℕ) (r' : Kept) (tower' a' b' : List ℤ) (out' : List ℕ) : Type 0 where
-  pub told : r.told ≡ r'.told
-  pub bytes : take r.told out ≡ take r'.told out'
+pub record SameStep (r : Kept) (n : ℕ) (tower a b : List ℤ) (out : List ℕ) (r' : Kept) (n' : ℕ) (tower' a' b' : List ℤ) (out' : List ℕ) : Type 0 where
+  pub told : n ≡ n'
+  pub bytes : take n out ≡ take n' out'
   pub state : state_of r tower a b ≡ state_of r' tower' a' b'
 
 module _ {text : List ℕ} {number : ℕ} {k : Kept} {tower a b : List ℤ} {out : List ℕ} where
-  pub stepped_determined : {r s : Kept} {tower' a' b' tower'' a'' b'' : List ℤ} {out' out'' : List ℕ}
-      → Stepped text number k tower a b r tower' a' b' out out' → Stepped text number k tower a b s tower'' a'' b'' out out''
-      → SameStep r tower' a' b' out' s tower'' a'' b'' out''
+  pub stepped_determined : {r s : Kept} {m n : ℕ} {tower' a' b' tower'' a'' b'' : List ℤ} {out' out'' : List ℕ}
+      → Stepped text number k tower a b r m tower' a' b' out out' → Stepped text number k tower a b s n tower'' a'' b'' out out''
+      → SameStep r m tower' a' b' out' s n tower'' a'' b'' out''
   stepped_determined x y = record {
     told = x.answer.end ∙ sym y.answer.end;
     bytes = x.answer.stands ∙ sym y.answer.stands;
@@ -31,8 +31,8 @@ module _ {text : List ℕ} {number : ℕ} {k : Kept} {tower a b : List ℤ} {out
 
   -- ---- a whole input
   -- the answers to a line and those behind it: the bytes told for the line, and then the answers from what is kept
-  pub stepped_runs : {r : Kept} {tower' a' b' : List ℤ} {out' : List ℕ} → Stepped text number k tower a b r tower' a' b' out out' → (ls : List (List ℕ))
-      → run (state_of k tower a b) number (text ∷ ls) ≡ take r.told out' ++ run (state_of r tower' a' b') (suc number) ls
+  pub stepped_runs : {r : Kept} {told : ℕ} {tower' a' b' : List ℤ} {out' : List ℕ} → Stepped text number k tower a b r told tower' a' b' out out'
+      → (ls : List (List ℕ)) → run (state_of k tower a b) number (text ∷ ls) ≡ take told out' ++ run (state_of r tower' a' b') (suc number) ls
   unfolding run
   stepped_runs x ls = ap₂ (λ t s. t ++ run s (suc number) ls) (sym x.answer.stands) (sym x.state)
 
@@ -43,7 +43,7 @@ pub record Missing (s : State) (number : ℕ) : Type 0 where
   pub of_mul : printed s number mul ≡ missing_text name_mul
   pub of_inv : printed s number inv ≡ missing_text name_inv
 
-pub field_missing : {k : Kept} → Sound k → k.field ≡ false → (tower a b : List ℤ) (number : ℕ) → Missing (state_of k tower a b) number
+pub field_missing : {k : Kept} → Sound k → k.field ≡ None → (tower a b : List ℤ) (number : ℕ) → Missing (state_of k tower a b) number
 field_missing sound off tower a b number =
     let none = (sound.none off).0 in
     record {

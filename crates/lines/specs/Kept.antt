@@ -3,22 +3,30 @@
 -- state_of, Sound              == what is kept as a state, and what holds of it
 -- Begins, Extended, AllowedBy, KeptBy == what is kept at the start, after `ext`, whether a line is allowed, and what is kept after it
 -- WordStore .. OutStore == the lengths of the stores
+-- RingKept              == what an operation runs over
 -- Told, Stepped         == what is printed for a line; a line read and answered
-use Rattle.std.specs.Prelude.{ℕ, suc, ◌+◌, ◌*◌, ◌<◌, ◌≤◌, true, false, List, ◌≡◌, ℤ, length, take, drop, set}
+use Rattle.std.specs.Prelude.{ℕ, suc, ◌+◌, ◌*◌, ◌<◌, ◌≤◌, Bool, true, cond, Option, Some, None, List, ◌≡◌, ℤ, pos, length, take, drop, set}
+use Rattle.std.specs.Option.{is_some}
 use Rattle.text.specs.Appending.{Appended}
 use Rattle.text.specs.Fields.{most_words}
 use Rattle.lines.specs.declared.Kept.{Kept}
 use Rattle.lines.specs.declared.Line.{Line}
-use Rattle.lines.specs.declared.Line.TheVariants.{Unreadable, Field, Ext, First, Second, Gcd, Div, Mul, Inv}
+use Rattle.lines.specs.declared.Ring.{Ring}
+use Rattle.lines.specs.declared.Line.TheVariants.{Field, Ext, First, Second, Gcd, Div, Mul, Inv}
 use Rattle.lines.specs.Answers.{out_bytes}
-use Rattle.lines.specs.Reading.{meaning_of, meant, Carried}
+use Rattle.lines.specs.Reading.{meaning_of, meant, Carried, said, Carries, unreadable}
 use Rattle.lines.specs.Steps.{State, allowed, after, answer_words, most_element, work_words, printed}
 
 -- ---- what the program keeps: the tower's words fill their store from the end, a and b are the first words of theirs
+-- the p of a field, and 0 where there is none
+abbrev pub modulus_of : Option ℤ → ℤ
+modulus_of (Some p) = p
+modulus_of None = pos 0
+
 abbrev pub state_of : Kept → (tower a b : List ℤ) → State
 state_of k tower a b = record {
-  started = k.field;
-  p = k.p;
+  started = is_some k.field;
+  p = modulus_of k.field;
   levels = k.levels;
   degrees = k.degrees;
   tower = drop k.tower tower;
@@ -39,7 +47,7 @@ pub record Sound (k : Kept) : Type 0 where
   pub b_inside : k.b ≤ most_words
   pub degrees_four : length k.degrees ≡ 4
   -- without a field there is no operand
-  pub none : k.field ≡ false → (k.a ≡ 0) × (k.b ≡ 0)
+  pub none : k.field ≡ None → (k.a ≡ 0) × (k.b ≡ 0)
 
 -- ---- the parts of the program
 -- what is kept before the first line, and after `field` p
@@ -56,7 +64,6 @@ pub record ExtReady (k : Kept) (n : ℕ) : Type 0 where
 pub record Extended (k : Kept) (degree : ℤ) (n : ℕ) (r : Kept) : Type 0 where
   pub sound : Sound r
   pub field : r.field ≡ k.field
-  pub p : r.p ≡ k.p
   pub levels : r.levels ≡ suc k.levels
   pub degrees : r.degrees ≡ set k.degrees k.levels degree
   pub tower : r.tower + n ≡ k.tower
@@ -66,26 +73,31 @@ pub record Extended (k : Kept) (degree : ℤ) (n : ℕ) (r : Kept) : Type 0 wher
 -- a line that is allowed: `ext` has a level left, `poly` has a field
 abbrev pub Allowed : Kept → Line → Type 0
 Allowed k (Ext n) = k.levels < 4
-Allowed k Unreadable = Unit {0}
 Allowed k (Field p) = Unit {0}
-Allowed k (First n) = k.field ≡ true
-Allowed k (Second n) = k.field ≡ true
+Allowed k (First n) = is_some k.field ≡ true
+Allowed k (Second n) = is_some k.field ≡ true
 Allowed k Gcd = Unit {0}
 Allowed k Div = Unit {0}
 Allowed k Mul = Unit {0}
 Allowed k Inv = Unit {0}
 
-pub record AllowedBy (line : Line) (k : Kept) (r : Line) : Type 0 where
-  pub carried : Carried line → Carried r
-  pub allows : Allowed k r
-  pub means : (w tower a b : List ℤ) → meant r w ≡ allowed (state_of k tower a b) (meant line w)
+pub record AllowedBy (line : Line) (k : Kept) (r : Bool) : Type 0 where
+  pub allows : r ≡ true → Allowed k line
+  pub means : (w tower a b : List ℤ) → cond r (meant line w) unreadable ≡ allowed (state_of k tower a b) (meant line w)
+
+-- a line that is readable and allowed
+abbrev pub Allows : Kept → Option Line → Type 0
+Allows k None = Unit {0}
+Allows k (Some line) = Allowed k line
+
+pub record Readable (text : List ℕ) (k : Kept) (w : List ℤ) (r : Option Line) : Type 0 where
+  pub carried : Carries r
+  pub allows : Allows k r
+  pub means : (tower a b : List ℤ) → said r w ≡ allowed (state_of k tower a b) (meaning_of text)
 
 -- ---- the lengths of the stores
 abbrev pub WordStore : List ℤ → Type 0
 WordStore w = length w ≡ most_words
-
-abbrev pub TowerStore : List ℤ → Type 0
-TowerStore w = length w ≡ tower-words
 
 abbrev pub AnswerStore : List ℤ → Type 0
 AnswerStore w = length w ≡ answer_words
@@ -100,41 +112,30 @@ abbrev pub OutStore : List ℕ → Type 0
 OutStore s = out_bytes ≤ length s
 
 -- ---- what is kept after a line
-pub record KeepReady (line : Line) (k : Kept) (words tower a b : List ℤ) : Type 0 where
+pub record KeepReady (line : Line) (k : Kept) (words : List ℤ) : Type 0 where
   pub sound : Sound k
   pub carried : Carried line
   pub allows : Allowed k line
   pub words_long : WordStore words
-  pub tower_long : TowerStore tower
-  pub a_long : WordStore a
-  pub b_long : WordStore b
 
 pub record KeptBy (line : Line) (k : Kept) (words tower a b : List ℤ) (r : Kept) (tower' a' b' : List ℤ) : Type 0 where
   pub sound : Sound r
   pub state : state_of r tower' a' b' ≡ after (state_of k tower a b) (meant line words)
 
 -- ---- a line answered
-pub record TellReady (k : Kept) (tower a b g r f v : List ℤ) (out : List ℕ) : Type 0 where
-  pub sound : Sound k
-  pub tower_long : TowerStore tower
-  pub a_long : WordStore a
-  pub b_long : WordStore b
-  pub g_long : AnswerStore g
-  pub r_long : WordStore r
-  pub f_long : FactorStore f
-  pub v_long : WorkStore v
-  pub out_long : OutStore out
+-- what an operation runs over
+pub record RingKept (k : Kept) (tower : List ℤ) (r : Ring) : Type 0 where
+  pub p_is : r.p ≡ modulus_of k.field
+  pub n_is : r.n ≡ pos k.levels
+  pub e_is : r.e ≡ k.degrees
+  pub t_is : r.t.now ≡ drop k.tower tower
 
--- a line is answered, whatever the store of its words holds
-pub record Told (line : Line) (number : ℕ) (k : Kept) (tower a b : List ℤ) (out out' : List ℕ) (r : ℕ) : Type 0 where
-  pub tells : (w : List ℤ) → Appended 0 (printed (state_of k tower a b) number (meant line w)) out out' r
+-- a line is answered, whatever its number is and the store of its words holds
+pub record Told (line : Line) (k : Kept) (tower a b : List ℤ) (out out' : List ℕ) (r : ℕ) : Type 0 where
+  pub tells : (number : ℕ) (w : List ℤ) → Appended 0 (printed (state_of k tower a b) number (meant line w)) out out' r
 
-pub record StepReady (k : Kept) (words tower a b g r f v : List ℤ) (out : List ℕ) : Type 0 where
-  pub words_long : WordStore words
-  pub tell : TellReady k tower a b g r f v out
-
--- the line of a number and these bytes: its answer is the first bytes of out, and what is kept after it
-pub record Stepped (text : List ℕ) (number : ℕ) (k : Kept) (tower a b : List ℤ) (r : Kept) (tower' a' b' : List ℤ) (out out' : List ℕ) : Type 0 where
+-- the line of a number and these bytes: its answer is the first bytes of out, as many as are told, and what is kept after it
+pub record Stepped (text : List ℕ) (number : ℕ) (k : Kept) (tower a b : List ℤ) (r : Kept) (told : ℕ) (tower' a' b' : List ℤ) (out out' : List ℕ) : Type 0 where
   pub sound : Sound r
-  pub answer : Appended 0 (printed (state_of k tower a b) number (allowed (state_of k tower a b) (meaning_of text))) out out' r.told
+  pub answer : Appended 0 (printed (state_of k tower a b) number (allowed (state_of k tower a b) (meaning_of text))) out out' told
   pub state : state_of r tower' a' b' ≡ after (state_of k tower a b) (allowed (state_of k tower a b) (meaning_of text))

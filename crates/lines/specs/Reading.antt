@@ -3,12 +3,13 @@
 -- Meaning             == what a line says
 -- meaning_of          == what the bytes of a line say
 -- meant, Carried      == what the program's line says with the words of its store, and how many they are
+-- said, Carries       == so where it may be unreadable
 -- Says, OperationSaid == what the program's functions give
-use Rattle.std.specs.Prelude.{ℕ, ◌≤◌, Bool, true, false, cond, List, [], ◌∷◌, ◌≡◌, leb, ℤ, length, take}
+use Rattle.std.specs.Prelude.{ℕ, ◌≤◌, Bool, true, false, cond, List, [], ◌∷◌, ◌≡◌, leb, ℤ, length, take, Option, Some, None}
 use Rattle.text.specs.Fields.{fields_of, most_bytes, most_words, words_of}
 use Rattle.text.specs.Text.{same_text}
 use Rattle.lines.specs.declared.Line.{Line}
-use Rattle.lines.specs.declared.Line.TheVariants.{Unreadable, Field, Ext, First, Second, Gcd, Div, Mul, Inv}
+use Rattle.lines.specs.declared.Line.TheVariants.{Field, Ext, First, Second, Gcd, Div, Mul, Inv}
 use Rattle.lines.specs.Names.{name_field, name_ext, name_poly, name_a, name_b, name_gcd, name_div, name_mul, name_inv}
 
 -- ---- what a line says
@@ -71,7 +72,6 @@ meaning_of s = cond (leb (length s) most_bytes) (fields_say (fields_of s)) unrea
 
 -- ---- the program's line, whose words are the first of a store
 abbrev pub meant : Line → List ℤ → Meaning
-meant Unreadable w = unreadable
 meant (Field p) w = field p
 meant (Ext n) w = ext (take n w)
 meant (First n) w = first (take n w)
@@ -86,19 +86,27 @@ abbrev pub Carried : Line → Type 0
 Carried (Ext n) = (1 ≤ n) × (n ≤ most_words)
 Carried (First n) = (1 ≤ n) × (n ≤ most_words)
 Carried (Second n) = (1 ≤ n) × (n ≤ most_words)
-Carried Unreadable = Unit {0}
 Carried (Field p) = Unit {0}
 Carried Gcd = Unit {0}
 Carried Div = Unit {0}
 Carried Mul = Unit {0}
 Carried Inv = Unit {0}
 
+-- none where it is unreadable
+abbrev pub said : Option Line → List ℤ → Meaning
+said None w = unreadable
+said (Some line) w = meant line w
+
+abbrev pub Carries : Option Line → Type 0
+Carries None = Unit {0}
+Carries (Some line) = Carried line
+
 -- ---- the parts of the program
 -- a line of the program means this
-pub record Says (line : Line) (w : List ℤ) (m : Meaning) : Type 0 where
-  pub carried : Carried line
-  pub means : meant line w ≡ m
+pub record Says (line : Option Line) (w : List ℤ) (m : Meaning) : Type 0 where
+  pub carried : Carries line
+  pub means : said line w ≡ m
 
 -- an operation carries no words
-pub record OperationSaid (line : Line) (name : List ℕ) (fs : List (List ℕ)) : Type 0 where
+pub record OperationSaid (line : Option Line) (name : List ℕ) (fs : List (List ℕ)) : Type 0 where
   pub says : (w : List ℤ) → Says line w (operation_says name fs)

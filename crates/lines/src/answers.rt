@@ -1,93 +1,67 @@
 // The four operations: the kernel's call on lists that are lent, and its answer as a line.
-ghost use Rattle.std.specs.Prelude.{[]};
+ghost use Rattle.std.specs.Prelude.{[], ◌≡◌};
 ghost use Rattle.tower.specs.Limits.{degrees_of};
 ghost use Rattle.kernel.specs.Answers.{said};
+ghost use Rattle.kernel.specs.Refusals.{done};
 ghost use Rattle.text.specs.Appending.{Appended};
 ghost use Rattle.text.specs.Fields.{most_words};
-ghost use Rattle.lines.specs.Answers.{answer_text, divided, gcd_text, div_text, mul_text, inv_text, AnswerReady, SlotEnds, QuotientReady, ElementReady, LineReady};
-ghost use Rattle.lines.specs.Names.{name_gcd, name_div, name_mul, name_inv};
-ghost use Rattle.lines.specs.Printing.{slot_text, element_text};
+ghost use Rattle.lines.specs.Answers.{answer_text, gcd_text, div_text, mul_text, inv_text, name_of, given_text, AnswerReady, GivenReady, LineReady};
 ghost use Rattle.lines.specs.Steps.{answer_words, most_element};
 
 use super::printing::{division_line, factor_line, inverse_line, refused_line, slot_line};
+use crate::{Given, Ring};
 use kernel::Answer;
 use tower::words::nat;
 
-// The line of the answer to `gcd`.
-pub fn gcd_answer(
+impl Given<'_> {
+    // The name of the operation.
+    fn name(self) -> &'static [u8]
+        ensures { result.now ≡ name_of self.entry }
+    {
+        match self {
+            Given::Gcd(_) => b"gcd",
+            Given::Div(..) => b"div",
+            Given::Mul(_) => b"mul",
+            Given::Inv(_) => b"inv",
+        }
+    }
+}
+
+// The line of what an operation gives.
+fn given_line(out: &mut [u8], i: usize, e: [i64; 4], given: Given) -> usize
+    requires { GivenReady i e given out.old }
+    ensures { let g = given.entry in Appended 0 (answer_text (name_of g) (degrees_of e) done (given_text (degrees_of e) i g) []) out.old out.new result }
+{
+    match given {
+        Given::Gcd(g) => slot_line(out, b"gcd", i, e, g),
+        Given::Div(q, r) => division_line(out, i, e, q, r),
+        Given::Mul(c) => slot_line(out, b"mul", i, e, c),
+        Given::Inv(u) => inverse_line(out, i, e, u),
+    }
+}
+
+// The line of an answer; an operation that shows no factor lends no words for one.
+pub fn answer_line(
     out: &mut [u8],
     answer: Answer,
     i: usize,
     e: [i64; 4],
-    g: &[i64],
+    given: Given,
     f: &[i64],
 ) -> usize
-    requires { AnswerReady answer (SlotEnds 6 i e g.now out.old) e f.now out.old }
-    ensures { Appended 0 (answer_text name_gcd (degrees_of e) (said answer) (slot_text (degrees_of e) i g.now) f.now) out.old out.new result }
+    requires { AnswerReady answer (GivenReady i e given out.old) e f.now out.old }
+    ensures { let g = given.entry in Appended 0 (answer_text (name_of g) (degrees_of e) (said answer) (given_text (degrees_of e) i g) f.now) out.old out.new result }
 {
     match answer {
-        Answer::Done => slot_line(out, b"gcd", i, e, g),
-        Answer::Factor(level) => factor_line(out, b"gcd", level, e, f),
-        Answer::Refused(number) => refused_line(out, b"gcd", number),
-    }
-}
-
-// The line of the answer to `div`, which shows no factor.
-pub fn div_answer(
-    out: &mut [u8],
-    answer: Answer,
-    i: usize,
-    e: [i64; 4],
-    q: &[i64],
-    r: &[i64],
-) -> usize
-    requires { AnswerReady answer (QuotientReady i e q.now r.now out.old) e [] out.old }
-    ensures { Appended 0 (answer_text name_div (degrees_of e) (said answer) (divided (degrees_of e) i q.now r.now) []) out.old out.new result }
-{
-    match answer {
-        Answer::Done => division_line(out, i, e, q, r),
-        Answer::Factor(_) => 0,
-        Answer::Refused(number) => refused_line(out, b"div", number),
-    }
-}
-
-// The line of the answer to `mul`, which shows no factor.
-pub fn mul_answer(out: &mut [u8], answer: Answer, i: usize, e: [i64; 4], c: &[i64]) -> usize
-    requires { AnswerReady answer (SlotEnds 6 i e c.now out.old) e [] out.old }
-    ensures { Appended 0 (answer_text name_mul (degrees_of e) (said answer) (slot_text (degrees_of e) i c.now) []) out.old out.new result }
-{
-    match answer {
-        Answer::Done => slot_line(out, b"mul", i, e, c),
-        Answer::Factor(_) => 0,
-        Answer::Refused(number) => refused_line(out, b"mul", number),
-    }
-}
-
-// The line of the answer to `inv`.
-pub fn inv_answer(
-    out: &mut [u8],
-    answer: Answer,
-    i: usize,
-    e: [i64; 4],
-    r: &[i64],
-    f: &[i64],
-) -> usize
-    requires { AnswerReady answer (ElementReady 7 i e r.now out.old) e f.now out.old }
-    ensures { Appended 0 (answer_text name_inv (degrees_of e) (said answer) (element_text (degrees_of e) i r.now) f.now) out.old out.new result }
-{
-    match answer {
-        Answer::Done => inverse_line(out, i, e, r),
-        Answer::Factor(level) => factor_line(out, b"inv", level, e, f),
-        Answer::Refused(number) => refused_line(out, b"inv", number),
+        Answer::Done => given_line(out, i, e, given),
+        Answer::Factor(level) => factor_line(out, given.name(), level, e, f),
+        Answer::Refused(number) => refused_line(out, given.name(), number),
     }
 }
 
 // The GCD of a and b, in g.
 pub fn gcd(
-    p: i64,
-    n: i64,
-    e: [i64; 4],
-    t: &[i64],
+    ring: Ring,
     a: &[i64],
     b: &[i64],
     g: &mut [i64],
@@ -96,18 +70,15 @@ pub fn gcd(
     out: &mut [u8],
 ) -> usize
     requires { LineReady answer_words g.old out.old × LineReady most_element f.old out.old }
-    ensures { Appended 0 (gcd_text p n e t.now a.now b.now g.old f.old v.old) out.old out.new result }
+    ensures { let r = ring.entry in Appended 0 (gcd_text r.p r.n r.e r.t.now a.now b.now g.old f.old v.old) out.old out.new result }
 {
-    let answer = kernel::gcd(p, n, e, t, a, b, g, f, v);
-    gcd_answer(out, answer, nat(n), e, g, f)
+    let answer = kernel::gcd(ring.p, ring.n, ring.e, ring.t, a, b, g, f, v);
+    answer_line(out, answer, nat(ring.n), ring.e, Given::Gcd(g), f)
 }
 
 // The quotient of a by b in q, and the remainder in a.
 pub fn div(
-    p: i64,
-    n: i64,
-    e: [i64; 4],
-    t: &[i64],
+    ring: Ring,
     a: &mut [i64],
     b: &[i64],
     q: &mut [i64],
@@ -115,46 +86,33 @@ pub fn div(
     out: &mut [u8],
 ) -> usize
     requires { LineReady answer_words q.old out.old × LineReady most_words a.old out.old }
-    ensures { Appended 0 (div_text p n e t.now a.old b.now q.old v.old) out.old out.new result }
+    ensures { let r = ring.entry in Appended 0 (div_text r.p r.n r.e r.t.now a.old b.now q.old v.old) out.old out.new result }
 {
-    let answer = kernel::division(p, n, e, t, a, b, q, v);
-    div_answer(out, answer, nat(n), e, q, a)
+    let answer = kernel::division(ring.p, ring.n, ring.e, ring.t, a, b, q, v);
+    answer_line(out, answer, nat(ring.n), ring.e, Given::Div(q, a), &[])
 }
 
 // The product of a and b, in c.
-pub fn mul(
-    p: i64,
-    n: i64,
-    e: [i64; 4],
-    t: &[i64],
-    a: &[i64],
-    b: &[i64],
-    c: &mut [i64],
-    v: &mut [i64],
-    out: &mut [u8],
-) -> usize
+pub fn mul(ring: Ring, a: &[i64], b: &[i64], c: &mut [i64], v: &mut [i64], out: &mut [u8]) -> usize
     requires { LineReady answer_words c.old out.old }
-    ensures { Appended 0 (mul_text p n e t.now a.now b.now c.old v.old) out.old out.new result }
+    ensures { let r = ring.entry in Appended 0 (mul_text r.p r.n r.e r.t.now a.now b.now c.old v.old) out.old out.new result }
 {
-    let answer = kernel::product(p, n, e, t, a, b, c, v);
-    mul_answer(out, answer, nat(n), e, c)
+    let answer = kernel::product(ring.p, ring.n, ring.e, ring.t, a, b, c, v);
+    answer_line(out, answer, nat(ring.n), ring.e, Given::Mul(c), &[])
 }
 
-// The inverse of the element a, in r.
+// The inverse of the element a, in u.
 pub fn inv(
-    p: i64,
-    n: i64,
-    e: [i64; 4],
-    t: &[i64],
+    ring: Ring,
     a: &[i64],
-    r: &mut [i64],
+    u: &mut [i64],
     f: &mut [i64],
     v: &mut [i64],
     out: &mut [u8],
 ) -> usize
-    requires { LineReady most_element r.old out.old × LineReady most_element f.old out.old }
-    ensures { Appended 0 (inv_text p n e t.now a.now r.old f.old v.old) out.old out.new result }
+    requires { LineReady most_element u.old out.old × LineReady most_element f.old out.old }
+    ensures { let r = ring.entry in Appended 0 (inv_text r.p r.n r.e r.t.now a.now u.old f.old v.old) out.old out.new result }
 {
-    let answer = kernel::inverse(p, n, e, t, a, r, f, v);
-    inv_answer(out, answer, nat(n), e, r, f)
+    let answer = kernel::inverse(ring.p, ring.n, ring.e, ring.t, a, u, f, v);
+    answer_line(out, answer, nat(ring.n), ring.e, Given::Inv(u), f)
 }

@@ -12,13 +12,11 @@ pub fn degree_at(i: usize, z: [usize; 5], k: usize) -> bool
     requires { (i ≤ 5) × ((d : List ℕ) × Sized d z) }
     ensures { DegreeTold z i k result }
 {
-    let mut level = i;
     let mut at = k;
-    while 0 < level {
+    for level in (0..i).rev() {
         if at == 0 {
             return true;
         }
-        level -= 1;
         at = (at - 1) % size_at(z, level);
     }
     false
@@ -33,6 +31,8 @@ pub fn put_residue(out: &mut [u8], held: usize, w: i64) -> usize
 }
 
 // A degree word behind a tab.
+//
+// Stays: a function beside `put_residue`. The definitions `residue_text` and `degree_text` of specs/Printing.antt, which may not change, tell them apart.
 pub fn put_degree(out: &mut [u8], held: usize, w: i64) -> usize
     requires { held + 21 ≤ length out.old }
     ensures { Appended held (degree_text w) out.old out.new result }
@@ -46,9 +46,10 @@ pub fn put_word(out: &mut [u8], held: usize, degree: bool, w: i64) -> usize
     ensures { Appended held (place_text degree w) out.old out.new result }
 {
     if degree {
-        return put_degree(out, held, w);
+        put_degree(out, held, w)
+    } else {
+        put_residue(out, held, w)
     }
-    put_residue(out, held, w)
 }
 
 // The first n words of x, which has the form of an element of level i.
@@ -57,10 +58,8 @@ pub fn put_form(out: &mut [u8], held: usize, i: usize, z: [usize; 5], x: &[i64],
     ensures { FormPut i n held z x.now out.old out.new result }
 {
     let mut told = held;
-    let mut k: usize = 0;
-    while k < n {
-        told = put_word(out, told, degree_at(i, z, k), x[k]);
-        k += 1;
+    for (k, w) in x[..n].iter().enumerate() {
+        told = put_word(out, told, degree_at(i, z, k), *w);
     }
     told
 }

@@ -9,6 +9,9 @@ use tower::words::nat;
 // The words of an answer slot at most.
 pub const ANSWER_WORDS: usize = 4096;
 
+// The words of a factor: no element has more.
+pub const FACTOR_WORDS: usize = 2048;
+
 // The words of the work store.
 pub const WORK_WORDS: usize = 8192;
 
@@ -16,12 +19,9 @@ pub const WORK_WORDS: usize = 8192;
 pub fn element_words(n: i64, e: [i64; 4]) -> usize
     ensures { result ≡ lent_element n e }
 {
-    let told = kernel::work_sizes(n, e, -1, -1);
-    let answer = told.answer;
-    match answer {
+    match kernel::work_sizes(n, e, -1, -1).answer {
         Answer::Done => size_at(sizes(degrees(e)), nat(n)),
-        Answer::Factor(_) => 1,
-        Answer::Refused(_) => 1,
+        Answer::Factor(_) | Answer::Refused(_) => 1,
     }
 }
 
@@ -30,9 +30,5 @@ pub fn slot_words(s: usize) -> usize
     requires { (0 < s) × (s ≤ most_element) }
     ensures { result ≡ slot_words s }
 {
-    let k = (ANSWER_WORDS - 1) / s;
-    if 256 < k {
-        return 1 + 256 * s;
-    }
-    1 + k * s
+    1 + ((ANSWER_WORDS - 1) / s).min(256) * s
 }

@@ -19,10 +19,7 @@ pub fn put_slot(out: &mut [u8], held: usize, i: usize, e: [i64; 4], x: &[i64]) -
     ensures { Appended held (slot_text (degrees_of e) i x.now) out.old out.new result }
 {
     let z = sizes(degrees(e));
-    let mut k = count_at(x, 0);
-    if k == 0 {
-        k = 1;
-    }
+    let k = count_at(x, 0).max(1);
     put_form(out, held, i + 1, z, x, 1 + k * size_at(z, i))
 }
 
@@ -41,9 +38,10 @@ pub fn put_factor(out: &mut [u8], held: usize, level: usize, e: [i64; 4], f: &[i
     ensures { Appended held (factor_text (degrees_of e) level f.now) out.old out.new result }
 {
     if level == 0 {
-        return put_degree(out, held, word_at(f, 0));
+        put_degree(out, held, word_at(f, 0))
+    } else {
+        put_element(out, held, level, e, f)
     }
-    put_element(out, held, level, e, f)
 }
 
 // A slot and a line end.

@@ -1,7 +1,8 @@
 // A line read and answered.
-ghost use Rattle.std.specs.Prelude.{◌+◌, ◌≤◌, ◌≡◌, ◌&&◌, [], ltb, length};
+ghost use Rattle.std.specs.Prelude.{◌+◌, ◌≤◌, ◌≡◌, ◌&&◌, [], true, ltb, length};
+ghost use Rattle.std.specs.Option.{is_some};
 ghost use Rattle.text.specs.Appending.{Appended};
-ghost use Rattle.lines.specs.Kept.{state_of, Sound, TowerStore, WordStore, AnswerStore, FactorStore, WorkStore, OutStore, TellReady, Told, StepReady, Stepped};
+ghost use Rattle.lines.specs.Kept.{state_of, Sound, OutStore, RingKept, WordStore, Readable, Told, Stepped};
 ghost use Rattle.lines.specs.Reading.{gcd, div, mul, inv, unreadable};
 ghost use Rattle.lines.specs.Steps.{nothing, missing_text, printed};
 
@@ -10,9 +11,9 @@ use super::keeping::{allowed, keep};
 use super::lengths::{element_words, slot_words};
 use super::printing::{end_number, opened};
 use super::reading::read_line;
-use crate::{Kept, Line};
+use crate::{Kept, Line, Ring, Room, Stores};
 use text::bytes::append;
-use tower::store::copy_in;
+use text::fields::MOST_WORDS;
 
 // The line of an operation that lacks a field or an operand.
 pub fn missing(out: &mut [u8], name: &[u8]) -> usize
@@ -35,207 +36,151 @@ pub fn unreadable(out: &mut [u8], number: u64) -> usize
 pub fn both(k: Kept) -> bool
     ensures { result ≡ (ltb 0 k.a && ltb 0 k.b) }
 {
-    if k.a == 0 {
-        return false;
+    0 < k.a && 0 < k.b
+}
+
+// What an operation runs over, where there is a field.
+fn ring_of(k: Kept, tower: &[i64]) -> Ring
+    requires { Sound k × (is_some k.field ≡ true) × (k.tower ≤ length tower.now) }
+    ensures { RingKept k tower.now result }
+{
+    let e = k.degrees;
+    Ring {
+        p: k.field.unwrap(),
+        n: residue::word(k.levels as u64),
+        e,
+        t: &tower[k.tower..],
     }
-    0 < k.b
 }
 
 // The answer of `gcd`.
-pub fn tell_gcd(
-    k: Kept,
-    tower: &[i64],
-    a: &[i64],
-    b: &[i64],
-    g: &mut [i64],
-    f: &mut [i64],
-    v: &mut [i64],
-    out: &mut [u8],
-) -> usize
-    requires { Sound k × (TowerStore tower.now × (WordStore a.now × (WordStore b.now × (AnswerStore g.old × (FactorStore f.old × (WorkStore v.old × OutStore out.old)))))) }
-    ensures { Appended 0 (printed (state_of k tower.now a.now b.now) 0 gcd) out.old out.new result }
+pub fn tell_gcd(k: Kept, s: &Stores, room: &mut Room, out: &mut [u8]) -> usize
+    requires { Sound k × OutStore out.old }
+    ensures { Appended 0 (printed (state_of k s.now.tower s.now.a s.now.b) 0 gcd) out.old out.new result }
 {
     if !both(k) {
         return missing(out, b"gcd");
     }
-    let n = residue::word(k.levels as u64);
-    let e = k.degrees;
-    let begin = k.tower;
-    let a_count = k.a;
-    let b_count = k.b;
-    let s = element_words(n, e);
-    let l = slot_words(s);
+    let ring = ring_of(k, &s.tower);
+    let n = element_words(ring.n, ring.e);
+    let l = slot_words(n);
+    let answer = &mut room.answer[..];
+    let factor = &mut room.factor[..];
     gcd(
-        k.p,
-        n,
-        e,
-        &tower[begin..],
-        &a[..a_count],
-        &b[..b_count],
-        &mut g[..l],
-        &mut f[..s],
-        v,
+        ring,
+        &s.a[..k.a],
+        &s.b[..k.b],
+        &mut answer[..l],
+        &mut factor[..n],
+        &mut room.work,
         out,
     )
 }
 
-// The answer of `div`, where r is for a copy of a.
-pub fn tell_div(
-    k: Kept,
-    tower: &[i64],
-    a: &[i64],
-    b: &[i64],
-    g: &mut [i64],
-    r: &mut [i64],
-    v: &mut [i64],
-    out: &mut [u8],
-) -> usize
-    requires { Sound k × (TowerStore tower.now × (WordStore a.now × (WordStore b.now × (AnswerStore g.old × (WordStore r.old × (WorkStore v.old × OutStore out.old)))))) }
-    ensures { Appended 0 (printed (state_of k tower.now a.now b.now) 0 div) out.old out.new result }
+// The answer of `div`, which writes the remainder over a copy of a.
+pub fn tell_div(k: Kept, s: &Stores, room: &mut Room, out: &mut [u8]) -> usize
+    requires { Sound k × OutStore out.old }
+    ensures { Appended 0 (printed (state_of k s.now.tower s.now.a s.now.b) 0 div) out.old out.new result }
 {
     if !both(k) {
         return missing(out, b"div");
     }
-    let n = residue::word(k.levels as u64);
-    let e = k.degrees;
-    let begin = k.tower;
-    let a_count = k.a;
-    let b_count = k.b;
-    let l = slot_words(element_words(n, e));
-    copy_in(a, 0, r, 0, a_count);
+    let ring = ring_of(k, &s.tower);
+    let l = slot_words(element_words(ring.n, ring.e));
+    let mut a = s.a;
+    let answer = &mut room.answer[..];
     div(
-        k.p,
-        n,
-        e,
-        &tower[begin..],
-        &mut r[..a_count],
-        &b[..b_count],
-        &mut g[..l],
-        v,
+        ring,
+        &mut a[..k.a],
+        &s.b[..k.b],
+        &mut answer[..l],
+        &mut room.work,
         out,
     )
 }
 
 // The answer of `mul`.
-pub fn tell_mul(
-    k: Kept,
-    tower: &[i64],
-    a: &[i64],
-    b: &[i64],
-    g: &mut [i64],
-    v: &mut [i64],
-    out: &mut [u8],
-) -> usize
-    requires { Sound k × (TowerStore tower.now × (WordStore a.now × (WordStore b.now × (AnswerStore g.old × (WorkStore v.old × OutStore out.old))))) }
-    ensures { Appended 0 (printed (state_of k tower.now a.now b.now) 0 mul) out.old out.new result }
+pub fn tell_mul(k: Kept, s: &Stores, room: &mut Room, out: &mut [u8]) -> usize
+    requires { Sound k × OutStore out.old }
+    ensures { Appended 0 (printed (state_of k s.now.tower s.now.a s.now.b) 0 mul) out.old out.new result }
 {
     if !both(k) {
         return missing(out, b"mul");
     }
-    let n = residue::word(k.levels as u64);
-    let e = k.degrees;
-    let begin = k.tower;
-    let a_count = k.a;
-    let b_count = k.b;
-    let l = slot_words(element_words(n, e));
+    let ring = ring_of(k, &s.tower);
+    let l = slot_words(element_words(ring.n, ring.e));
+    let answer = &mut room.answer[..];
     mul(
-        k.p,
-        n,
-        e,
-        &tower[begin..],
-        &a[..a_count],
-        &b[..b_count],
-        &mut g[..l],
-        v,
+        ring,
+        &s.a[..k.a],
+        &s.b[..k.b],
+        &mut answer[..l],
+        &mut room.work,
         out,
     )
 }
 
 // The answer of `inv`.
-pub fn tell_inv(
-    k: Kept,
-    tower: &[i64],
-    a: &[i64],
-    g: &mut [i64],
-    f: &mut [i64],
-    v: &mut [i64],
-    out: &mut [u8],
-) -> usize
-    requires { Sound k × (TowerStore tower.now × (WordStore a.now × (AnswerStore g.old × (FactorStore f.old × (WorkStore v.old × OutStore out.old))))) }
-    ensures { Appended 0 (printed (state_of k tower.now a.now []) 0 inv) out.old out.new result }
+pub fn tell_inv(k: Kept, s: &Stores, room: &mut Room, out: &mut [u8]) -> usize
+    requires { Sound k × OutStore out.old }
+    ensures { Appended 0 (printed (state_of k s.now.tower s.now.a []) 0 inv) out.old out.new result }
 {
     if k.a == 0 {
         return missing(out, b"inv");
     }
-    let n = residue::word(k.levels as u64);
-    let e = k.degrees;
-    let begin = k.tower;
-    let a_count = k.a;
-    let s = element_words(n, e);
+    let ring = ring_of(k, &s.tower);
+    let n = element_words(ring.n, ring.e);
+    let answer = &mut room.answer[..];
+    let factor = &mut room.factor[..];
     inv(
-        k.p,
-        n,
-        e,
-        &tower[begin..],
-        &a[..a_count],
-        &mut g[..s],
-        &mut f[..s],
-        v,
+        ring,
+        &s.a[..k.a],
+        &mut answer[..n],
+        &mut factor[..n],
+        &mut room.work,
         out,
     )
 }
 
 // The answer of a line that is allowed here; field, ext and poly have none.
-pub fn tell(
-    line: Line,
-    number: u64,
-    k: Kept,
-    tower: &[i64],
-    a: &[i64],
-    b: &[i64],
-    g: &mut [i64],
-    r: &mut [i64],
-    f: &mut [i64],
-    v: &mut [i64],
-    out: &mut [u8],
-) -> usize
-    requires { TellReady k tower.now a.now b.now g.old r.old f.old v.old out.old }
-    ensures { Told line number k tower.now a.now b.now out.old out.new result }
+pub fn tell(line: Line, k: Kept, s: &Stores, room: &mut Room, out: &mut [u8]) -> usize
+    requires { Sound k × OutStore out.old }
+    ensures { Told line k s.now.tower s.now.a s.now.b out.old out.new result }
 {
     match line {
-        Line::Unreadable => unreadable(out, number),
-        Line::Field(_) => 0,
-        Line::Ext(_) => 0,
-        Line::First(_) => 0,
-        Line::Second(_) => 0,
-        Line::Gcd => tell_gcd(k, tower, a, b, g, f, v, out),
-        Line::Div => tell_div(k, tower, a, b, g, r, v, out),
-        Line::Mul => tell_mul(k, tower, a, b, g, v, out),
-        Line::Inv => tell_inv(k, tower, a, g, f, v, out),
+        Line::Field(_) | Line::Ext(_) | Line::First(_) | Line::Second(_) => 0,
+        Line::Gcd => tell_gcd(k, s, room, out),
+        Line::Div => tell_div(k, s, room, out),
+        Line::Mul => tell_mul(k, s, room, out),
+        Line::Inv => tell_inv(k, s, room, out),
     }
 }
 
-// The line of this number and these bytes: its answer is the first bytes of out, as many as are told, and what is kept after it is given.
+// What the line says, where it is readable and what is kept allows it.
+fn readable(text: &[u8], k: Kept, words: &mut [i64]) -> Option<Line>
+    requires { WordStore words.old }
+    ensures { Readable text.now k words.new result }
+{
+    let line = read_line(text, words)?;
+    if allowed(line, k) { Some(line) } else { None }
+}
+
+// The line of this number and these bytes: what is kept after it, and how many of the first bytes of out are its answer.
 pub fn step(
     text: &[u8],
     number: u64,
     k: Kept,
-    words: &mut [i64],
-    tower: &mut [i64],
-    a: &mut [i64],
-    b: &mut [i64],
-    g: &mut [i64],
-    r: &mut [i64],
-    f: &mut [i64],
-    v: &mut [i64],
+    s: &mut Stores,
+    room: &mut Room,
     out: &mut [u8],
-) -> Kept
-    requires { StepReady k words.old tower.old a.old b.old g.old r.old f.old v.old out.old }
-    ensures { Stepped text.now number k tower.old a.old b.old result tower.new a.new b.new out.old out.new }
+) -> (Kept, usize)
+    requires { Sound k × OutStore out.old }
+    ensures { Stepped text.now number k s.old.tower s.old.a s.old.b result.0 result.1 s.new.tower s.new.a s.new.b out.old out.new }
 {
-    let line = allowed(read_line(text, words), k);
-    let told = tell(line, number, k, tower, a, b, g, r, f, v, out);
-    let mut l = keep(line, k, words, tower, a, b);
-    l.told = told;
-    l
+    let mut words = [0i64; MOST_WORDS];
+    let Some(line) = readable(text, k, &mut words) else {
+        return (k, unreadable(out, number));
+    };
+    let told = tell(line, k, s, room, out);
+    (keep(line, k, &words, s), told)
 }

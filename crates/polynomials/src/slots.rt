@@ -3,7 +3,7 @@ ghost use Rattle.std.specs.Prelude.{◌≡◌, ◌+◌, ◌^◌, ◌≤◌};
 ghost use Rattle.polynomials.specs.Slots.{product_count, FinishReady, Finished, MultiplyReady, Multiplied, MultiplyAtReady, MultipliedAt};
 ghost use Rattle.polynomials.specs.Slots.{DivideReady, Parted, DivideRowReady, DividedRow, PlaceReady, Placed};
 
-use arithmetic::places::{first_of, span_of};
+use arithmetic::places::{Source, first_of, span_of};
 use arithmetic::rows::settle;
 use products::Operands;
 use products::product::product;
@@ -17,13 +17,7 @@ pub fn product_count(ca: usize, cb: usize) -> usize
     requires { ca + cb ≤ 2 ^ 63 }
     ensures { result ≡ product_count ca cb }
 {
-    if ca == 0 {
-        return 0;
-    }
-    if cb == 0 {
-        return 0;
-    }
-    ca + cb - 1
+    if ca == 0 || cb == 0 { 0 } else { ca + cb - 1 }
 }
 
 // Ends a slot of k coefficients of level i whose others stand: n zeros from the place `from` on, and the degree word.
@@ -67,15 +61,26 @@ pub fn multiply_at(
     let y = coefficient_at(0, first_of(ca, j), s);
     let n = span_of(ca, cb, j);
     let m = [0usize; 4];
-    let o = Operands {
-        i: i,
-        x_in: false,
-        a: x,
-        y_in: false,
-        b: y,
-        n: n,
+    let e = Source {
+        lent: t,
+        stored: false,
+        at: 0,
     };
-    product(i, d, z, p, m, t, false, 0, a, b, o, false, false, w, 0, s);
+    let o = Operands {
+        i,
+        x: Source {
+            lent: a,
+            at: x,
+            ..e
+        },
+        y: Source {
+            lent: b,
+            at: y,
+            ..e
+        },
+        n,
+    };
+    product(i, d, z, p, m, e, o, false, false, w, 0, s);
     copy_in(w, 0, c, coefficient_at(0, j, s), s);
 }
 
@@ -98,10 +103,8 @@ pub fn multiply(
     let ca = count_at(a, 0);
     let cb = count_at(b, 0);
     let h = product_count(ca, cb);
-    let mut j: usize = 0;
-    while j < h {
+    for j in 0..h {
         multiply_at(j, i, d, z, p, t, a, ca, b, cb, c, w);
-        j += 1;
     }
     finish(i, k, h, k - h, d, z, c);
 }
@@ -113,9 +116,9 @@ pub fn place_coefficient(k: usize, g: usize, s: usize, w: &[i64], a: &mut [i64],
 {
     if k < g {
         copy_in(w, 0, a, coefficient_at(0, k, s), s);
-        return;
+    } else {
+        copy_in(w, 0, q, coefficient_at(0, k - g, s), s);
     }
-    copy_in(w, 0, q, coefficient_at(0, k - g, s), s);
 }
 
 // Divides the cap coefficients in the slot a by the polynomial with the g lowest coefficients of b under its leading 1: the remainder's stay in
@@ -138,29 +141,39 @@ pub fn divide_row(
 {
     let s = size_at(z, i);
     let m = [0usize; 4];
-    let mut k = cap - 1;
+    let high = cap - 1;
     copy_in(
         a,
-        coefficient_at(0, k, s),
+        coefficient_at(0, high, s),
         q,
-        coefficient_at(0, k - g, s),
+        coefficient_at(0, high - g, s),
         s,
     );
-    while 0 < k {
-        k -= 1;
+    for k in (0..high).rev() {
         let x = coefficient_at(0, first_of(cap - g, k), s);
         let y = coefficient_at(0, first_of(g, k), s);
         let n = span_of(g, cap - g, k);
         copy_in(a, coefficient_at(0, k, s), w, 0, s);
-        let o = Operands {
-            i: i,
-            x_in: false,
-            a: x,
-            y_in: false,
-            b: y,
-            n: n,
+        let e = Source {
+            lent: t,
+            stored: false,
+            at: 0,
         };
-        product(i, d, z, p, m, t, false, 0, b, q, o, true, true, w, 0, s);
+        let o = Operands {
+            i,
+            x: Source {
+                lent: b,
+                at: x,
+                ..e
+            },
+            y: Source {
+                lent: q,
+                at: y,
+                ..e
+            },
+            n,
+        };
+        product(i, d, z, p, m, e, o, true, true, w, 0, s);
         place_coefficient(k, g, s, w, a, q);
     }
 }
@@ -186,9 +199,9 @@ pub fn divide(
     let g = count_at(b, 0) - 1;
     if cap <= g {
         finish(i, kq, 0, kq, d, z, q);
-        return;
+    } else {
+        divide_row(i, d, z, p, t, a, b, g, cap, q, w);
+        finish(i, ka, g, cap - g, d, z, a);
+        finish(i, kq, cap - g, kq - (cap - g), d, z, q);
     }
-    divide_row(i, d, z, p, t, a, b, g, cap, q, w);
-    finish(i, ka, g, cap - g, d, z, a);
-    finish(i, kq, cap - g, kq - (cap - g), d, z, q);
 }

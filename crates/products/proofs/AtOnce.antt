@@ -1,66 +1,44 @@
--- Laws of level 1 of a product of elements of level 1 with q coefficients whose sums are all made at once: then the coefficients are written one by one,
--- from the top down.
+-- Laws of level 1 of a product of elements of level 1 with q coefficients whose sums are all made at once.
 --
--- once_asks == what the sums ask for
--- AtOnce    == nothing is written yet; what a coefficient asks for; one more; all of them
--- at_once   == the laws of it, where the sums are there
-use Prim.Native.Nat.{ℕ, suc, ◌+◌, ◌-◌, ◌*◌, ◌<◌}
+-- once_asks, once_ready == what the sums ask for, and what they are for the coefficients;  once_summed == each of them
+use Prim.Native.Nat.{ℕ, ◌<◌}
 use native.Mathlib.Omega.{arith}
-use mathlib.Core.Path.{◌≡◌, refl, sym, ap, subst}
-use mathlib.Core.Bool.{Bool}
+use mathlib.Core.Path.{◌≡◌, refl, sym, ◌∙◌, ap}
+use mathlib.Core.Bool.{Bool, false}
 use mathlib.Core.List.{List}
-use lib.IntN.{ℤ, pos}
-use lib.ListN.{set}
+use lib.IntN.{ℤ}
+use lib.ListN.{length}
 use Rattle.residue.specs.declared.Accumulator.{Accumulator}
-use Rattle.residue.specs.Number.{sum_of, Added}
 use Rattle.tower.specs.Levels.{degree}
 use Rattle.arithmetic.specs.Places.{wide}
-use Rattle.arithmetic.specs.Walk.{pick}
-use Rattle.arithmetic.specs.Line.{line_at, LineReady}
+use Rattle.arithmetic.specs.Line.{LineReady, sum_at, AllSums}
 use Rattle.products.specs.Product.{Two, left, right, ProductReady}
-use Rattle.products.specs.Lowest.{SummedAt, WriteReady, written_number, LowestDone}
+use Rattle.products.specs.Lowest.{SummedAt, SumsReady}
 use Rattle.products.proofs.Pairings.{line_asks, line_summed}
-use Rattle.products.proofs.Lowerings.{Lowering, lowest-some, lowering_start, lowering_ready, lowering_writes, lowering_next, lowering_end}
+use Rattle.products.proofs.Lowerings.{lowest-some, lowering_start, lowering_ready}
 
--- the sums s, by their places; w₀ is the store before
-pub record AtOnce (d : List ℕ) (p : ℕ) (m : List ℕ) (e : List ℤ) (e-in : Bool) (ea : ℕ) (o : Two) (neg keep : Bool) (w₀ : List ℤ) (c top q : ℕ)
-    (s : ℕ → Accumulator) : Type 0 where
-  pub start : Lowering d p m e e-in ea o neg keep w₀ c top (wide q) w₀
-  pub writes : (k : ℕ) {w : List ℤ} → Lowering d p m e e-in ea o neg keep w₀ c top (suc k) w → WriteReady q p (pick e-in w e) ea keep w c top k (s k).lo (s k).hi
-  pub next : (k : ℕ) {w w' : List ℤ} → Lowering d p m e e-in ea o neg keep w₀ c top (suc k) w
-      → w' ≡ set w (top + k) (pos (written_number q p (pick e-in w e) ea neg keep w c top k (sum_of (s k).lo (s k).hi)))
-      → Lowering d p m e e-in ea o neg keep w₀ c top k w'
-  pub done : {w : List ℤ} → Lowering d p m e e-in ea o neg keep w₀ c top 0 w → LowestDone d p m e e-in ea o neg keep w₀ w c top
-
-module _ {d z : List ℕ} {p : ℕ} {m : List ℕ} {e : List ℤ} {e-in : Bool} {ea : ℕ} {o : Two} {keep : Bool} {w₀ : List ℤ} {c top q : ℕ}
-    (h : ProductReady 1 d z p m e e-in ea o keep w₀ c top) (level : o.i ≡ 1) (low : q ≡ degree d 0) where
-  begin : (neg : Bool) → Lowering d p m e e-in ea o neg keep w₀ c top (wide q) w₀
-  begin neg = lowering_start h refl low
+-- x and y are the lists that the operands stand in
+module _ {d z : List ℕ} {p : ℕ} {m : List ℕ} {e : List ℤ} {e-in : Bool} {ea : ℕ} {o : Two} {keep : Bool} {w : List ℤ} {c top g : ℕ} (q : ℕ) {x y : List ℤ}
+    (h : ProductReady 1 d z p m e e-in ea o keep w c top) (level : o.i ≡ 1) (low : g ≡ degree d 0) (known : g ≡ q) (ex : x ≡ left o w) (ey : y ≡ right o w) where
+  same : q ≡ degree d 0
+  same = sym known ∙ low
 
   some : 0 < wide q
-  some = omega (arith, lowest-some h, low)
+  some = omega (arith, lowest-some h, same)
 
-  pub once_asks : Bool → LineReady q (left o w₀) o.a (right o w₀) o.b o.n
-  once_asks neg = (line_asks d m o w₀ _ level low h.places (lowering_ready h some (begin neg) low).pairs).1
+  pub once_asks : LineReady q x o.a y o.b o.n
+  once_asks =
+      rw (ex, ey)
+      (line_asks d m o w _ level same h.places (lowering_ready h some (lowering_start h {neg = false} refl same) same).pairs).1
 
-  module _ (neg : Bool) {s : ℕ → Accumulator}
-      (sums : (k : ℕ) → k < wide q → Added (o.n * suc q) (line_at (left o w₀) (right o w₀) q k o.n o.a o.b) 0 0 (s k).lo (s k).hi) where
-    summed : (k : ℕ) {w : List ℤ} → Lowering d p m e e-in ea o neg keep w₀ c top (suc k) w → SummedAt d m o w₀ k (s k).lo (s k).hi
-    summed k lo = line_summed d m o w₀ k level low h.places (sums k (omega (arith, lo.few, ap wide low)))
+  pub once_ready : (s : List Accumulator) → AllSums q x y o.n o.a o.b s → SumsReady (wide q) g d o w s
+  once_ready s sums = record {
+    level = level;
+    lowest = low;
+    all = sym (ap wide known);
+    sums = rw (known, ← ex, ← ey) sums;
+  }
 
-    -- the place below k + 1
-    below : (k : ℕ) → k ≡ suc k - 1
-    below k = omega arith
-
-    pub at_once : AtOnce d p m e e-in ea o neg keep w₀ c top q s
-    at_once = record {
-      start = begin neg;
-      writes = λ k {w} lo.
-          subst (λ n. WriteReady q p (pick e-in w e) ea keep w c top n (s k).lo (s k).hi) (sym (below k))
-          (lowering_writes h (omega arith) lo low (subst (λ n. SummedAt d m o w₀ n (s k).lo (s k).hi) (below k) (summed k lo)));
-      next = λ k {w} {w'} lo ew.
-          subst (λ n. Lowering d p m e e-in ea o neg keep w₀ c top n w') (sym (below k))
-          (lowering_next h (omega arith) lo low (subst (λ n. SummedAt d m o w₀ n (s k).lo (s k).hi) (below k) (summed k lo))
-          (subst (λ n. w' ≡ set w (top + n) (pos (written_number q p (pick e-in w e) ea neg keep w c top n (sum_of (s k).lo (s k).hi)))) (below k) ew));
-      done = λ lo. lowering_end h refl lo;
-    }
+pub once_summed : {n g k : ℕ} {d : List ℕ} (m : List ℕ) {o : Two} {w : List ℤ} {s : List Accumulator} → SumsReady n g d o w s → length m ≡ 4 → k < n
+    → SummedAt d m o w k (sum_at s k).lo (sum_at s k).hi
+once_summed {n} {g} {k} {d} m {o} {w} {s} h places b = line_summed d m o w k h.level h.lowest places (h.sums k (omega (arith, h.all)))

@@ -59,12 +59,12 @@ pub record Counted (d : List ℕ) (i b a g cap k f q n c : ℕ) : Type 0 where
   pub many : n ≡ span g (cap - g) k
   pub here : c ≡ a + k * size d i
 
-pub counted : {d : List ℕ} {i b a g cap k s f f₁ q q₁ n c : ℕ} → s ≡ size d i → f ≡ b + f₁ * s → f₁ ≡ first (cap - g) k → q ≡ a + (g + q₁) * s → q₁ ≡ first g k
-    → n ≡ span g (cap - g) k → c ≡ a + k * s → Counted d i b a g cap k f q n c
-counted {b = b} {a = a} {g = g} {k = k} {s = s} {f = f} {f₁ = f₁} {q = q} {q₁ = q₁} {c = c} es ef e₁ eq e₂ en ec = record {
-  lefts = part-is f b f₁ s ef e₁ es;
-  rights = part-is q a (g + q₁) s eq (ap (λ (x : ℕ). g + x) e₂) es;
-  many = en;
+pub counted : {d : List ℕ} {i b a g cap k s c : ℕ} → s ≡ size d i → c ≡ a + k * s
+    → Counted d i b a g cap k (b + first (cap - g) k * s) (a + (g + first g k) * s) (span g (cap - g) k) c
+counted {b = b} {a = a} {g = g} {cap = cap} {k = k} {s = s} {c = c} es ec = record {
+  lefts = part-is (b + first (cap - g) k * s) b (first (cap - g) k) s refl refl es;
+  rights = part-is (a + (g + first g k) * s) a (g + first g k) s refl refl es;
+  many = refl;
   here = part-is c a k s ec refl es;
 }
 

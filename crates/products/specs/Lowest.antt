@@ -5,11 +5,13 @@
 -- PairsAtReady, SummedAt     == the pairs of one coefficient of level 1, and that their sum is made
 -- DividedReady, divided_number == the residue of that sum and of what the quotient's coefficients above it take away
 -- WriteReady, written_number == the word that is written for it
+-- SumsReady                  == the sums of all coefficients of level 1 are made
 -- LowestDone                 == all coefficients of level 1, divided by the lowest polynomial of the tower
 -- LeaveReady, Left           == g elements from top on become the slot at c
 use Rattle.std.specs.Prelude.{ℕ, suc, ◌+◌, ◌-◌, ◌*◌, ◌%◌, ◌^◌, ◌<◌, ◌≤◌, ◌≡◌, Bool, true, false, List, ℤ, length, set}
 use Rattle.algebra.specs.Vec.{Vec}
 use Rattle.algebra.specs.Windows.{first, span}
+use Rattle.residue.specs.declared.Accumulator.{Accumulator}
 use Rattle.residue.specs.Number.{Modulus, Room, Added}
 use Rattle.residue.specs.Word.{at}
 use Rattle.tower.specs.Levels.{degree, El, group, Tower}
@@ -20,6 +22,7 @@ use Rattle.arithmetic.specs.Places.{keeps_at, loses_at, wide}
 use Rattle.arithmetic.specs.Rows.{RunStands}
 use Rattle.arithmetic.specs.Sum.{gained, gained_number}
 use Rattle.arithmetic.specs.Walk.{pick, dot_at, run_at, Readable, PairsReady}
+use Rattle.arithmetic.specs.Line.{AllSums}
 use Rattle.products.specs.Product.{Two, left, right, TowerStands, Given, Pairs}
 
 abbrev pub old_number : Bool → ℕ → ℕ
@@ -80,6 +83,13 @@ written_number g p e ea neg keep w c top k t =
     gained_number (loses_at neg k g) p (old_number (keeps_at keep k g) (at w (c + 1 + k))) (divided_number g p e ea w top k t)
 
 -- ---- level 1
+-- the sums of all places of elements of level 1 with g coefficients
+pub record SumsReady (places g : ℕ) (d : List ℕ) (o : Two) (w : List ℤ) (s : List Accumulator) : Type 0 where
+  pub level : o.i ≡ 1
+  pub lowest : g ≡ degree d 0
+  pub all : places ≡ wide g
+  pub sums : AllSums g (left o w) (right o w) o.n o.a o.b s
+
 pub record LowestDone (d : List ℕ) (p : ℕ) (m : List ℕ) (e : List ℤ) (e-in : Bool) (ea : ℕ) (o : Two) (neg keep : Bool) (w w' : List ℤ) (c top : ℕ) : Type 0 where
   pub frame : Kept top (wide (degree d 0)) w w'
   pub done : (p_pos : 0 < p) (t : Tower p d 1) (u v : ℕ → El p d o.i) (old : El p d 1)

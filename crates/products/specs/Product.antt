@@ -4,13 +4,15 @@
 -- work d j              == the words above top that a product at level j uses
 -- TowerStands, Elements == the words of a tower, of n elements one behind the other, stand at a place
 -- Two                   == n pairs of elements of level i, upwards from a in x and downwards to b in y, each in the store or lent
--- operands o x y        == those that the code's numbers name
+-- operands o            == those that the code's value names
 -- Inside                == n words of an operand: within its list, and below top where it is in the store
 -- Given, Pairs          == elements that stand in the operands' words and in the answer's place; what the pairs come to
 -- Spread                == the same where the old content's coefficients stand from top on
+-- taken, TakenReady     == the pairs that a coefficient loses in a division, and the bounds of their places
 -- ProductReady, CoefficientsReady, RemainderReady and .. Done == the contracts
 use Rattle.std.specs.Prelude.{ℕ, zero, suc, ◌+◌, ◌-◌, ◌*◌, ◌^◌, ◌<◌, ◌≤◌, ◌≡◌, refl, Bool, true, false, ◌⊎◌, List, ℤ, pos, length, get_or, set}
 use Rattle.algebra.specs.Vec.{Vec, coef}
+use Rattle.algebra.specs.Windows.{first, span}
 use Rattle.algebra.specs.Divided.{row}
 use Rattle.residue.specs.Number.{Modulus}
 use Rattle.tower.specs.Levels.{degree, El, group, Tower, ring}
@@ -64,8 +66,8 @@ pub record Two : Type 0 where
 abbrev pub two : ℕ → List ℤ → Bool → ℕ → List ℤ → Bool → ℕ → ℕ → Two
 two i x x_in a y y_in b n = record { i = i; x = x; x_in = x_in; a = a; y = y; y_in = y_in; b = b; n = n }
 
-abbrev pub operands : Operands → List ℤ → List ℤ → Two
-operands o x y = two o.i x o.x_in o.a y o.y_in o.b o.n
+abbrev pub operands : Operands → Two
+operands o = two o.i o.x.lent.now o.x.stored o.x.at o.y.lent.now o.y.stored o.y.at o.n
 
 abbrev pub left : Two → List ℤ → List ℤ
 left o w = pick o.x_in w o.x
@@ -169,6 +171,16 @@ pub record Dividing (p : ℕ) (p_pos : 0 < p) (d : List ℕ) (i : ℕ) (t : Towe
 -- n words of an operand, where it is in the store, are none of the m words from a on
 abbrev pub Outside : Bool → ℕ → ℕ → ℕ → ℕ → Type 0
 Outside within b n a m = within ≡ true → (b + n ≤ a) ⊎ (a + m ≤ b)
+
+-- the pairs that the k-th of cap coefficients at a loses, of s words each: the divisor's g coefficients at b, and the quotient's, which stand in the store
+abbrev pub taken : (k i g cap s : ℕ) (e y : List ℤ) (y_in : Bool) (b a : ℕ) → Two
+taken k i g cap s e y y_in b a = two i y y_in (b + first (cap - g) k * s) e true (a + (g + first g k) * s) (span g (cap - g) k)
+
+pub record TakenReady (k g cap s b a : ℕ) : Type 0 where
+  pub fits : g ≤ cap
+  pub one : k < cap
+  pub left : b + first (cap - g) k * s < 2 ^ 64
+  pub right : a + (g + first g k) * s < 2 ^ 64
 
 pub record RemainderReady (i : ℕ) (d z : List ℕ) (p : ℕ) (e : List ℤ) (e-in : Bool) (ea : ℕ) (y : List ℤ) (y_in : Bool) (b g : ℕ) (w : List ℤ)
     (a cap top : ℕ) : Type 0 where

@@ -5,14 +5,13 @@ pub mod lowest;
 pub mod product;
 pub mod unit;
 
-// The operands of a product: n pairs of elements of level i, upwards from a in the one list and downwards to b in the other, each in the store or in
-// lent words.
+use arithmetic::places::Source;
+
+// The operands of a product: n pairs of elements of level i, upwards from where x begins and downwards to where y does.
 #[derive(Clone, Copy)]
-pub struct Operands {
+pub struct Operands<'a> {
     pub i: usize,
-    pub x_in: bool,
-    pub a: usize,
-    pub y_in: bool,
-    pub b: usize,
+    pub x: Source<'a>,
+    pub y: Source<'a>,
     pub n: usize,
 }

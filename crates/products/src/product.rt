@@ -4,12 +4,13 @@
 //
 // A product at level j makes the coefficients of its level, each a product one level down, and divides their row by the tower's polynomial; a
 // remainder at level i makes each coefficient by a product. The level falls round every cycle.
-ghost use Rattle.std.specs.Prelude.{◌≤◌};
-ghost use Rattle.products.specs.Product.{operands, ProductReady, ProductDone, CoefficientsReady, CoefficientsDone, RemainderReady, RemainderDone};
+ghost use Rattle.std.specs.Prelude.{◌≡◌, ◌≤◌};
+ghost use Rattle.products.specs.Product.{operands, ProductReady, ProductDone, CoefficientsReady, CoefficientsDone};
+ghost use Rattle.products.specs.Product.{TakenReady, taken, RemainderReady, RemainderDone};
 
 use super::Operands;
 use super::lowest::{leave, low_product};
-use arithmetic::places::{first_of, keeps, part_at, span_of, wide_of, with_place};
+use arithmetic::places::{Source, first_of, keeps, part_at, span_of, wide_of, with_place};
 use tower::sizes::{degree_at, size_at};
 use tower::store::copy;
 
@@ -21,11 +22,7 @@ pub fn product(
     z: [usize; 5],
     p: u64,
     m: [usize; 4],
-    e: &[i64],
-    e_in: bool,
-    ea: usize,
-    x: &[i64],
-    y: &[i64],
+    e: Source,
     o: Operands,
     neg: bool,
     keep: bool,
@@ -33,14 +30,14 @@ pub fn product(
     c: usize,
     top: usize,
 )
-    requires { ProductReady j d z p m e.now e_in ea (operands o x.now y.now) keep w.old c top }
-    ensures { ProductDone j d p m e.now e_in ea (operands o x.now y.now) neg keep w.old w.new c top }
+    requires { ProductReady j d z p m e.lent.now e.stored e.at (operands o) keep w.old c top }
+    ensures { ProductDone j d p m e.entry.lent.now e.entry.stored e.entry.at (operands o.entry) neg keep w.old w.new c top }
 {
     if j < 2 {
-        low_product(j, d, z, p, m, e, e_in, ea, x, y, o, neg, keep, w, c, top);
-        return;
+        low_product(j, d, z, p, m, e, o, neg, keep, w, c, top);
+    } else {
+        high_product(j, d, z, p, m, e, o, neg, keep, w, c, top);
     }
-    high_product(j, d, z, p, m, e, e_in, ea, x, y, o, neg, keep, w, c, top);
 }
 
 // From level 2 on: the coefficients of level j - 1, each a product, divided by the tower's polynomial.
@@ -51,11 +48,7 @@ pub fn high_product(
     z: [usize; 5],
     p: u64,
     m: [usize; 4],
-    e: &[i64],
-    e_in: bool,
-    ea: usize,
-    x: &[i64],
-    y: &[i64],
+    e: Source,
     o: Operands,
     neg: bool,
     keep: bool,
@@ -63,19 +56,22 @@ pub fn high_product(
     c: usize,
     top: usize,
 )
-    requires { (2 ≤ j) × ProductReady j d z p m e.now e_in ea (operands o x.now y.now) keep w.old c top }
-    ensures { ProductDone j d p m e.now e_in ea (operands o x.now y.now) neg keep w.old w.new c top }
+    requires { (2 ≤ j) × ProductReady j d z p m e.lent.now e.stored e.at (operands o) keep w.old c top }
+    ensures { ProductDone j d p m e.entry.lent.now e.entry.stored e.entry.at (operands o.entry) neg keep w.old w.new c top }
 {
     let l = j - 1;
     let g = degree_at(d, l);
     let s = size_at(z, l);
     let h = wide_of(g);
     let next = part_at(top, h, s);
-    let lower = ea + size_at(z, j) + s;
-    let b = ea + 1;
+    let lower = Source {
+        at: e.at + size_at(z, j) + s,
+        ..e
+    };
+    let divisor = Source { at: e.at + 1, ..e };
     copy(w, top, c + 1, g * s);
-    coefficients(l, d, z, p, m, e, e_in, lower, x, y, o, neg, keep, w, top);
-    remainder(l, d, z, p, e, e_in, lower, e, e_in, b, g, w, top, h, next);
+    coefficients(l, d, z, p, m, lower, o, neg, keep, w, top);
+    remainder(l, d, z, p, lower, divisor, g, w, top, h, next);
     leave(l, g, s, w, c, top);
 }
 
@@ -87,73 +83,81 @@ pub fn coefficients(
     z: [usize; 5],
     p: u64,
     m: [usize; 4],
-    e: &[i64],
-    e_in: bool,
-    ea: usize,
-    x: &[i64],
-    y: &[i64],
+    e: Source,
     o: Operands,
     neg: bool,
     keep: bool,
     w: &mut [i64],
     top: usize,
 )
-    requires { CoefficientsReady j d z p m e.now e_in ea (operands o x.now y.now) keep w.old top }
-    ensures { CoefficientsDone j d p m e.now e_in ea (operands o x.now y.now) neg keep w.old w.new top }
+    requires { CoefficientsReady j d z p m e.lent.now e.stored e.at (operands o) keep w.old top }
+    ensures { CoefficientsDone j d p m e.entry.lent.now e.entry.stored e.entry.at (operands o.entry) neg keep w.old w.new top }
 {
     let g = degree_at(d, j);
     let s = size_at(z, j);
     let h = wide_of(g);
     let next = part_at(top, h, s);
-    let mut k: usize = 0;
-    while k < h {
+    for k in 0..h {
         let at = with_place(m, j, k);
         let kept = keeps(keep, k, g);
         let c = part_at(top, k, s);
-        product(j, d, z, p, at, e, e_in, ea, x, y, o, neg, kept, w, c, next);
-        k += 1;
+        product(j, d, z, p, at, e, o, neg, kept, w, c, next);
     }
 }
 
-// Divides the cap coefficients of level i at a in place by the polynomial with the g coefficients at b under its leading 1.
+// What a division takes from the k-th of the cap coefficients of level i, of s words each, at a: the divisor's g coefficients at y times the quotient's, which
+// stand above.
+pub fn taken_at<'a>(
+    k: usize,
+    i: usize,
+    g: usize,
+    cap: usize,
+    s: usize,
+    e: Source<'a>,
+    y: Source<'a>,
+    a: usize,
+) -> Operands<'a>
+    requires { TakenReady k g cap s y.at a }
+    ensures { operands result ≡ taken k i g cap s e.entry.lent.now y.entry.lent.now y.entry.stored y.entry.at a }
+{
+    Operands {
+        i,
+        x: Source {
+            at: part_at(y.at, first_of(cap - g, k), s),
+            ..y
+        },
+        y: Source {
+            stored: true,
+            at: part_at(a, g + first_of(g, k), s),
+            ..e
+        },
+        n: span_of(g, cap - g, k),
+    }
+}
+
+// Divides the cap coefficients of level i at a in place by the polynomial with the g coefficients of y under its leading 1.
 #[cycle(coefficients_high_product_product_remainder)]
 pub fn remainder(
     i: usize,
     d: [usize; 4],
     z: [usize; 5],
     p: u64,
-    e: &[i64],
-    e_in: bool,
-    ea: usize,
-    y: &[i64],
-    y_in: bool,
-    b: usize,
+    e: Source,
+    y: Source,
     g: usize,
     w: &mut [i64],
     a: usize,
     cap: usize,
     top: usize,
 )
-    requires { RemainderReady i d z p e.now e_in ea y.now y_in b g w.old a cap top }
-    ensures { RemainderDone i d p e.now e_in ea y.now y_in b g w.old w.new a cap top }
+    requires { RemainderReady i d z p e.lent.now e.stored e.at y.lent.now y.stored y.at g w.old a cap top }
+    ensures { RemainderDone i d p e.entry.lent.now e.entry.stored e.entry.at y.entry.lent.now y.entry.stored y.entry.at g w.old w.new a cap top }
 {
     let s = size_at(z, i);
     let m = [0usize; 4];
-    let mut k = cap - 1;
-    while 0 < k {
-        k -= 1;
-        let f = part_at(b, first_of(cap - g, k), s);
-        let q = part_at(a, g + first_of(g, k), s);
-        let n = span_of(g, cap - g, k);
+    for k in (0..cap - 1).rev() {
+        let o = taken_at(k, i, g, cap, s, e, y, a);
         let c = part_at(a, k, s);
-        let o = Operands {
-            i: i,
-            x_in: y_in,
-            a: f,
-            y_in: true,
-            b: q,
-            n: n,
-        };
-        product(i, d, z, p, m, e, e_in, ea, y, e, o, true, true, w, c, top);
+        product(i, d, z, p, m, e, o, true, true, w, c, top);
     }
 }

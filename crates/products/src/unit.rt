@@ -3,11 +3,11 @@
 ghost use Rattle.products.specs.Unit.{ScaleReady, ScaleDone, UnitReady, UnitDone};
 
 use super::Operands;
-use super::product::product;
-use arithmetic::places::{first_of, part_at, span_of};
+use super::product::{product, taken_at};
+use arithmetic::places::{Source, part_at};
 use tower::sizes::size_at;
 
-// From g on the k-th coefficient, the element of level i at c, becomes the element at h times it.
+// From g on the k-th coefficient, the element of level i at c, becomes the element u times it.
 pub fn scale_at(
     k: usize,
     g: usize,
@@ -16,76 +16,59 @@ pub fn scale_at(
     z: [usize; 5],
     p: u64,
     m: [usize; 4],
-    e: &[i64],
-    e_in: bool,
-    ea: usize,
-    u: &[i64],
-    u_in: bool,
-    h: usize,
+    e: Source,
+    u: Source,
     w: &mut [i64],
     c: usize,
     top: usize,
 )
-    requires { ScaleReady i d z p m e.now e_in ea u.now u_in h w.old c top }
-    ensures { ScaleDone k g i d p m e.now e_in ea u.now u_in h w.old w.new c top }
+    requires { ScaleReady i d z p m e.lent.now e.stored e.at u.lent.now u.stored u.at w.old c top }
+    ensures { ScaleDone k g i d p m e.entry.lent.now e.entry.stored e.entry.at u.entry.lent.now u.entry.stored u.entry.at w.old w.new c top }
 {
     if k < g {
         return;
     }
     let o = Operands {
-        i: i,
-        x_in: u_in,
-        a: h,
-        y_in: true,
-        b: c,
+        i,
+        x: u,
+        y: Source {
+            stored: true,
+            at: c,
+            ..e
+        },
         n: 1,
     };
-    product(i, d, z, p, m, e, e_in, ea, u, e, o, false, false, w, c, top);
+    product(i, d, z, p, m, e, o, false, false, w, c, top);
 }
 
-// Divides the cap coefficients of level i at a in place by the polynomial with the g coefficients at b under a leading one whose inverse stands at h: the
+// Divides the cap coefficients of level i at a in place by the polynomial with the g coefficients of y under a leading one whose inverse is u: the
 // remainder's coefficients stay below g, the quotient's stand from g on.
+// Stays: one function for this and `remainder` is no plainer: the scaling would be one more of the cycle of calls, where the level falls round every cycle,
+// with an inverse that may be absent and a case of it in each contract. What a coefficient loses, `taken_at`, serves both.
 pub fn unit_remainder(
     i: usize,
     d: [usize; 4],
     z: [usize; 5],
     p: u64,
-    e: &[i64],
-    e_in: bool,
-    ea: usize,
-    y: &[i64],
-    y_in: bool,
-    b: usize,
+    e: Source,
+    y: Source,
     g: usize,
-    u: &[i64],
-    u_in: bool,
-    h: usize,
+    u: Source,
     w: &mut [i64],
     a: usize,
     cap: usize,
     top: usize,
 )
-    requires { UnitReady i d z p e.now e_in ea y.now y_in b g u.now u_in h w.old a cap top }
-    ensures { UnitDone i d p e.now e_in ea y.now y_in b g u.now u_in h w.old w.new a cap top }
+    requires { UnitReady i d z p e.lent.now e.stored e.at y.lent.now y.stored y.at g u.lent.now u.stored u.at w.old a cap top }
+    ensures { UnitDone i d p e.entry.lent.now e.entry.stored e.entry.at y.entry.lent.now y.entry.stored y.entry.at g
+        u.entry.lent.now u.entry.stored u.entry.at w.old w.new a cap top }
 {
     let s = size_at(z, i);
     let m = [0usize; 4];
-    let mut k = cap;
-    while 0 < k {
-        k -= 1;
-        let f = part_at(b, first_of(cap - g, k), s);
-        let q = part_at(a, g + first_of(g, k), s);
-        let n = span_of(g, cap - g, k);
+    for k in (0..cap).rev() {
+        let o = taken_at(k, i, g, cap, s, e, y, a);
         let c = part_at(a, k, s);
-        let o = Operands {
-            i: i,
-            x_in: y_in,
-            a: f,
-            y_in: true,
-            b: q,
-            n: n,
-        };
-        product(i, d, z, p, m, e, e_in, ea, y, e, o, true, true, w, c, top);
-        scale_at(k, g, i, d, z, p, m, e, e_in, ea, u, u_in, h, w, c, top);
+        product(i, d, z, p, m, e, o, true, true, w, c, top);
+        scale_at(k, g, i, d, z, p, m, e, u, w, c, top);
     }
 }

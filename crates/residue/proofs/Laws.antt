@@ -1,6 +1,7 @@
--- Laws of residues, of the accumulator, and of the rows of the extended Euclid. Those of words are in `Words`. Assumes nothing.
+-- Laws of residues, of words, of the accumulator, and of the rows of the extended Euclid. Assumes nothing.
 --
 -- minus-none, minus_once             == a number below p is its own residue, and one below 2p after p is taken off once
+-- euclid_mod                         == the Euclidean remainder of a word is its residue
 -- product_fits                       == a product of two residues fits a word
 -- room-start, room-less, room_after  == room for 2^32 folds from zero, for fewer, and for the rest after some
 -- added_none, added_more, added_then == no fold adds nothing; a larger count; folds after folds
@@ -10,16 +11,20 @@
 -- inverted_unique                    == an answer is determined
 use mathlib.Core.Path.{◌≡◌, refl, sym, ap, ◌∙◌}
 use mathlib.Core.Bool.{Bool, true, false, not}
-use mathlib.Core.Logic.{◌↔◌}
+use mathlib.Core.Logic.{◌↔◌, ◌⊎◌, inl, inr}
 use Prim.Native.Nat.{ℕ, zero, suc, ◌+◌, ◌-◌, ◌*◌, ◌/◌, ◌%◌, ◌^◌, ◌<◌, ◌≤◌, ◌∣◌}
 use native.Mathlib.Omega.{arith}
-use native.Mathlib.Nat.{le_refl, mod-lt, mod-eq_of_lt, add-mod_right, mod-add-mod, add-mul-mod_self_right, div-add-mod'}
+use lib.IntN.{ℤ, pos, negsuc, nat_abs}
+use native.Mathlib.Nat.{le_refl, mod-lt, mod_self, suc-mod, mod-eq_of_lt, add-mod_right, mod-add-mod, add-mul-mod_self_right, div-add-mod'}
 use native.Mathlib.Nat.{mul-le-mul, mul-le-mul_right, le-mul_of_pos_right}
 use native.Mathlib.Nat.{dvd_refl, dvd-zero, dvd-add, dvd-add_iff_left, dvd-mul_left_of_dvd, dvd_antisymm, eq-one_of_dvd-one}
+use Rattle.std.specs.Int.{int_rem_euclid}
+use Rattle.algebra.specs.Test.{le_or_lt}
 use Rattle.algebra.specs.Zmod.{mul_mod_l, mul_mod_r}
+use Rattle.residue.specs.Word.{mod_z}
 use Rattle.residue.specs.Number.{Below, sum_of, Room, Added, UnitOf, FactorOf, Inverted}
-use Rattle.residue.specs.declared.Inverse.{Inverse}
-use Rattle.residue.specs.declared.Inverse.TheVariants.{Unit, Factor}
+use Rattle.residue.specs.declared.Shared.{Shared}
+use Rattle.std.specs.Prelude.{Result, Ok, Err}
 
 -- ---- residues
 pub minus-none : (p n : ℕ) → n < p → Below p (n % p) n
@@ -33,6 +38,25 @@ product_fits {a} {b} {p} hp ha hb =
     let s : a ≤ 2 ^ 32 - 1 = omega arith in
     let t : b ≤ 2 ^ 32 - 1 = omega arith in
     omega (arith, mul-le-mul s t)
+
+-- ---- the residue of a word
+next_mod : (a p : ℕ) → 0 < p → p - 1 - a % p ≡ (p - suc a % p) % p
+next_mod a p h = go (le_or_lt p (suc (a % p)))
+  where
+    go : (p ≤ suc (a % p)) ⊎ (suc (a % p) < p) → p - 1 - a % p ≡ (p - suc a % p) % p
+    go (inl q) =
+        let all : suc (a % p) ≡ p = omega (arith, mod-lt a h) in
+        let whole : p - 0 ≡ p = omega arith in
+        let none : (p - 0) % p ≡ 0 = ap (λ x. x % p) whole ∙ mod_self p in
+        rw (suc-mod a p, all, mod_self p) (omega (arith, all, none))
+    go (inr q) =
+        let small : p - suc (a % p) < p = omega (arith, h) in
+        rw (suc-mod a p, mod-eq_of_lt q, mod-eq_of_lt small) (omega arith)
+
+-- what the machine reads back of the remainder
+pub euclid_mod : (n : ℤ) (p : ℕ) (r : ℤ) → 0 < p → r ≡ int_rem_euclid n (pos p) → Below p (mod_z n p) (nat_abs r)
+euclid_mod (pos n) p r h e = rw e (record { value = refl; small = mod-lt n h })
+euclid_mod (negsuc n) p r h e = rw e (record { value = next_mod n p h; small = omega (arith, h) })
 
 -- ---- the accumulator
 pub room-start : (n : ℕ) → n ≤ 2 ^ 32 → Room n 0 0
@@ -212,8 +236,8 @@ factor_unique : (p c g h : ℕ) → FactorOf p c g → FactorOf p c h → g ≡ 
 factor_unique p c g h a b =
     dvd_antisymm ((b.common g).1 ((a.common g).0 (dvd_refl g))) ((a.common h).1 ((b.common h).0 (dvd_refl h)))
 
-pub inverted_unique : (p c : ℕ) (r t : Inverse) → Inverted p c r → Inverted p c t → r ≡ t
-inverted_unique p c (Unit u) (Unit v) a b = ap Unit (unit_unique p c u v a b)
-inverted_unique p c (Unit u) (Factor h) a b = absurd (no_both p c u h a b)
-inverted_unique p c (Factor h) (Unit u) a b = absurd (no_both p c u h b a)
-inverted_unique p c (Factor g) (Factor h) a b = ap Factor (factor_unique p c g h a b)
+pub inverted_unique : (p c : ℕ) (r t : Result ℕ Shared) → Inverted p c r → Inverted p c t → r ≡ t
+inverted_unique p c (Ok u) (Ok v) a b = ap Ok (unit_unique p c u v a b)
+inverted_unique p c (Ok u) (Err h) a b = absurd (no_both p c u h.divisor a b)
+inverted_unique p c (Err h) (Ok u) a b = absurd (no_both p c u h.divisor b a)
+inverted_unique p c (Err g) (Err h) a b = ap (λ (k : ℕ). Err (record { divisor = k })) (factor_unique p c g.divisor h.divisor a b)

@@ -6,10 +6,9 @@
 -- sum_of lo hi               == what an accumulator of these two words holds
 -- Room, Added                == there is room for n folds more; n folds have added a
 -- Inverted p c r             == r is the inverse of c modulo p, or the greatest common divisor of the two
-use Rattle.std.specs.Prelude.{◌≡◌, ◌↔◌, ℕ, ◌+◌, ◌*◌, ◌%◌, ◌^◌, ◌<◌, ◌≤◌}
+use Rattle.std.specs.Prelude.{◌≡◌, ◌↔◌, ℕ, ◌+◌, ◌*◌, ◌%◌, ◌^◌, ◌<◌, ◌≤◌, Result, Ok, Err}
 use Rattle.std.specs.Int.{◌∣◌}
-use Rattle.residue.specs.declared.Inverse.{Inverse}
-use Rattle.residue.specs.declared.Inverse.TheVariants.{Unit, Factor}
+use Rattle.residue.specs.declared.Shared.{Shared}
 
 pub record Modulus (p : ℕ) : Type 0 where
   pub positive : 0 < p
@@ -53,6 +52,6 @@ pub record FactorOf (p c h : ℕ) : Type 0 where
   pub above : 1 < h
   pub common : (k : ℕ) → (k ∣ h) ↔ ((k ∣ p) × (k ∣ c))
 
-abbrev pub Inverted : (p c : ℕ) → Inverse → Type 0
-Inverted p c (Unit u) = UnitOf p c u
-Inverted p c (Factor h) = FactorOf p c h
+abbrev pub Inverted : (p c : ℕ) → Result ℕ Shared → Type 0
+Inverted p c (Ok u) = UnitOf p c u
+Inverted p c (Err h) = FactorOf p c h.divisor

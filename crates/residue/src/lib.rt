@@ -10,11 +10,10 @@ ghost use Rattle.std.specs.Prelude.{◌≡◌, ◌+◌, ◌-◌, ◌*◌, ◌%�
 ghost use Rattle.residue.specs.Number.{Modulus, Operands, Below, sum_of, Room, Added};
 ghost use Rattle.residue.specs.Word.{num, at, Narrow, mod_z};
 
-// The inverse of a number, or the greatest common divisor of it and the modulus.
-#[derive(Clone, Copy)]
-pub enum Inverse {
-    Unit(u64),
-    Factor(u64),
+// Why a number has no inverse: the greatest common divisor of it and the modulus, which is above 1.
+#[derive(Clone, Copy, PartialEq, Eq)]
+pub struct Shared {
+    pub divisor: u64,
 }
 
 // The sum of two residues.
@@ -49,6 +48,11 @@ pub struct Accumulator {
     pub hi: u64,
 }
 
+impl Accumulator {
+    // Nothing added yet.
+    pub const ZERO: Accumulator = Accumulator { lo: 0, hi: 0 };
+}
+
 // The accumulator with v added. The halves of v go to one word each, so nothing is compared and nothing wraps.
 pub fn fold(s: Accumulator, v: u64) -> Accumulator
     requires { Room 1 s.lo s.hi }
@@ -77,12 +81,7 @@ pub fn reduce(s: Accumulator, p: u64) -> u64
 pub fn magnitude(n: i64) -> u64
     ensures { result ≡ nat_abs n }
 {
-    if n < 0 {
-        // -n does not fit where n is -2^63
-        let m = -(n + 1);
-        return (m as u64) + 1;
-    }
-    n as u64
+    n.unsigned_abs()
 }
 
 // The residue of n modulo p.
@@ -90,18 +89,14 @@ pub fn residue_of(n: i64, p: u64) -> u64
     requires { Modulus p }
     ensures { Below p (mod_z n p) result }
 {
-    let m = magnitude(n) % p;
-    if n < 0 {
-        return (p - m) % p;
-    }
-    m
+    n.rem_euclid(p as i64) as u64
 }
 
 // The number that a word holds: 0 for a negative one.
 pub fn number(w: i64) -> u64
     ensures { result ≡ num w }
 {
-    if w < 0 { 0 } else { w as u64 }
+    u64::try_from(w).unwrap_or(0)
 }
 
 // The word that holds n.

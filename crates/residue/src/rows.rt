@@ -5,7 +5,7 @@
 ghost use Rattle.std.specs.Prelude.{◌≡◌, ◌/◌, ◌<◌};
 ghost use Rattle.residue.specs.Number.{Operand, Inverted};
 
-use crate::Inverse;
+use crate::Shared;
 
 // The whole quotient of two numbers.
 pub fn quotient(a: u64, b: u64) -> u64
@@ -15,8 +15,8 @@ pub fn quotient(a: u64, b: u64) -> u64
     a / b
 }
 
-// The inverse of c, or the greatest common divisor of c and p where that is above 1.
-pub fn inverse(c: u64, p: u64) -> Inverse
+// The inverse of c modulo p, or the greatest common divisor of the two where that is above 1.
+pub fn inverse(c: u64, p: u64) -> Result<u64, Shared>
     requires { (1 < p) × Operand p c }
     ensures { Inverted p c result }
 {
@@ -28,19 +28,12 @@ pub fn inverse(c: u64, p: u64) -> Inverse
     let mut m1: u64 = 1;
     while 0 < r1 {
         let q = quotient(r0, r1);
-        let r = r0 - q * r1;
-        let m = m0 + q * m1;
-        r0 = r1;
-        r1 = r;
-        m0 = m1;
-        m1 = m;
+        (r0, r1) = (r1, r0 - q * r1);
+        (m0, m1) = (m1, m0 + q * m1);
         plus = !plus;
     }
     if 1 < r0 {
-        return Inverse::Factor(r0);
+        return Err(Shared { divisor: r0 });
     }
-    if plus {
-        return Inverse::Unit(p - m0);
-    }
-    Inverse::Unit(m0)
+    Ok(if plus { p - m0 } else { m0 })
 }

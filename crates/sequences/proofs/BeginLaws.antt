@@ -8,7 +8,7 @@
 use Prim.Native.Nat.{ℕ, suc, ◌+◌, ◌-◌, ◌*◌, ◌<◌, ◌≤◌}
 use native.Mathlib.Nat.{mul-le-mul_right, suc-mul}
 use native.Mathlib.Omega.{arith}
-use mathlib.Core.Path.{◌≡◌, refl, ap, sym, ◌∙◌, subst}
+use mathlib.Core.Path.{◌≡◌, ap₂, refl, ap, sym, ◌∙◌, subst}
 use mathlib.Core.Bool.{Bool, true}
 use mathlib.Core.Logic.{inl}
 use mathlib.Core.List.{List}
@@ -29,9 +29,9 @@ use Rattle.euclid.specs.LazyInverse.{modulus, element}
 use Rattle.euclid.proofs.LazyInverse.{inverse_shown}
 use Rattle.euclid.specs.Towers.{inv}
 use Rattle.euclid.proofs.Towers.{good}
-use Rattle.sequences.specs.declared.Ended.TheVariants.{Divisor}
-use Rattle.sequences.specs.declared.Outcome.{Outcome}
-use Rattle.sequences.specs.declared.Outcome.TheVariants.{Done, Factor, Long}
+use Rattle.std.specs.Prelude.{Result, Ok, Err}
+use Rattle.sequences.specs.declared.Stop.{Stop}
+use Rattle.sequences.specs.declared.Stop.TheVariants.{Factor, Long}
 use Rattle.sequences.specs.Starts.{slot, BeginReady, Begun, BeginDone}
 use Rattle.sequences.specs.Outcomes.{RunReady, RunDone, InvertReady, InvertDone, Came, Reached}
 use Rattle.sequences.specs.Passes.{under_of, next_of, level_of, Clear, Laid, Looping}
@@ -133,7 +133,7 @@ module _ {h : ℕ} {d z : List ℕ} {p : ℕ} {e : List ℤ} {e-in : Bool} {ea :
           c_below = omega (arith, two_fit);
         }
 
-    module _ {w₂ : List ℤ} (c : Outcome)
+    module _ {w₂ : List ℤ} (c : Result (Unit {0}) Stop)
         (i : InvertDone h d p e e-in (under_of d h ea) e true (top + slot d h + 1 + (n - 1) * s) w₁ w₂ (top + 4 * slot d h + s) (next_of d h top) c) where
       pub begin_frame : Kept top (inverse_work d (suc h)) w₀ w₂
       begin_frame = kept_trans fra (worked_kept laid.ku_low laid.ku_high (omega (arith, run_room r)) i.frame)
@@ -150,7 +150,7 @@ module _ {h : ℕ} {d z : List ℕ} {p : ℕ} {e : List ℤ} {e-in : Bool} {ea :
       carried_same : {b : ℕ} → Same b ((g + 1) * s) w₁ w₂ → Same b (g * s) w₁ w₂
       carried_same y = same-part (omega arith) (omega arith) y
 
-      pub begin_going : c ≡ Done → Looping h d z p e e-in ea x x_in a w₀ top (top + 1) (top + 2 * slot d h + 1) (top + 4 * slot d h) (g + 1)
+      pub begin_going : c ≡ Ok tt → Looping h d z p e e-in ea x x_in a w₀ top (top + 1) (top + 2 * slot d h + 1) (top + 4 * slot d h) (g + 1)
           (top + slot d h + 1) (top + 3 * slot d h + 1) (top + 4 * slot d h + s) n w₂
       begin_going ec =
           let k = came_done p r.p_pos d h r.t.0 w₂ (top + 4 * slot d h + s) c ec (inv p r.p_pos d h r.t.0 q.c) came in
@@ -179,16 +179,20 @@ module _ {h : ℕ} {d z : List ℕ} {p : ℕ} {e : List ℤ} {e-in : Bool} {ea :
             });
           }
 
-      pub begin_shows : (m : ℕ) → c ≡ Factor m → RunDone (suc h) d p e e-in ea x x_in a w₀ w₂ top (Divisor m (top + 4 * slot d h + s))
-      begin_shows m ec =
-          let k = came_factor p r.p_pos d h r.t.0 w₂ (top + 4 * slot d h + s) c m ec (inv p r.p_pos d h r.t.0 q.c) came in
-          run_done r begin_frame (Divisor m (top + 4 * slot d h + s))
-          (subst (λ y. Reached p r.p_pos d (suc h) r.t y (Divisor m (top + 4 * slot d h + s)) w₂ top)
+      begin_shows : (m at : ℕ) → c ≡ Err (Factor m at) → RunDone (suc h) d p e e-in ea x x_in a w₀ w₂ top (Err (Factor m at))
+      begin_shows m at ec =
+          let k = came_factor p r.p_pos d h r.t.0 w₂ (top + 4 * slot d h + s) c m at ec (inv p r.p_pos d h r.t.0 q.c) came in
+          run_done r begin_frame (Err (Factor m at))
+          (subst (λ y. Reached p r.p_pos d (suc h) r.t y (Err (Factor m at)) w₂ top)
           (sym (inverse_shown (level_of r) g r.t.1 r.v q.e q.u q.c q.shape k.0 k.1))
-          (shown_above r w₂ (Divisor m (top + 4 * slot d h + s)) (top + 4 * slot d h + s) k.0 (ap (λ y. Divisor y (top + 4 * slot d h + s)) k.2)
-          laid.ku_low laid.ku_high k.3))
+          (shown_above r w₂ (Err (Factor m at)) (top + 4 * slot d h + s) k.0 (ap₂ (λ x y. Err (Factor x y)) k.2 k.3)
+          laid.ku_low laid.ku_high k.4))
 
-      pub begin_over : c ≡ Long → ⊥
+      begin_over : c ≡ Err Long → ⊥
       begin_over ec =
           inv_never_long (level_of r) (good p r.p_pos d h r.t.0) q.c q.shape.1
           (came_long p r.p_pos d h r.t.0 w₂ (top + 4 * slot d h + s) c ec (inv p r.p_pos d h r.t.0 q.c) came)
+
+      pub begin_stops : (y : Stop) → c ≡ Err y → RunDone (suc h) d p e e-in ea x x_in a w₀ w₂ top (Err y)
+      begin_stops (Factor m at) ec = begin_shows m at ec
+      begin_stops Long ec = absurd (begin_over ec)

@@ -21,7 +21,8 @@ use Rattle.products.specs.Product.{Elements}
 use Rattle.products.proofs.Frames.{worked_kept}
 use Rattle.euclid.specs.Shown.{shown_words, factor_element}
 use Rattle.euclid.specs.Lazy.{whole}
-use Rattle.sequences.specs.declared.Ended.TheVariants.{Inverse, Divisor}
+use Rattle.std.specs.Prelude.{Ok, Err}
+use Rattle.sequences.specs.declared.Stop.TheVariants.{Factor}
 use Rattle.sequences.specs.Rows.{ScaleRowReady, ScaleRowDone}
 use Rattle.sequences.specs.Starts.{FinishReady, FinishDone}
 use Rattle.sequences.specs.Outcomes.{RunReady, RunDone, Above, Reached}
@@ -120,11 +121,11 @@ module _ {h : ℕ} {d z : List ℕ} {p : ℕ} {e : List ℤ} {e-in : Bool} {ea :
           ∙ ap (λ y. trunc g (coef o (suc f.degree) y)) (scaled_at R (suc f.degree) f.unit (whole f))
           ∙ ap (trunc g) (fun_ext (λ j. coef-scale R (suc f.degree) f.unit (whole f) j ∙ sym (made-monic R f.degree f.low f.top f.unit zeroed.unit_f j)))
 
-      pub end_factor : {w₂ : List ℤ} → FinishDone h fn g d w₁ w₂ fr → RunDone (suc h) d p e e-in ea x x_in a w₀ w₂ top (Divisor (suc h) (fr - 1))
+      pub end_factor : {w₂ : List ℤ} → FinishDone h fn g d w₁ w₂ fr → RunDone (suc h) d p e e-in ea x x_in a w₀ w₂ top (Err (Factor (suc h) (fr - 1)))
       unfolding shown_words
       end_factor {w₂} fin =
-          run_done r (ended_frame s.laid.fr_low s.laid.fr_high scaled_frame (finish_frame fin)) (Divisor (suc h) (fr - 1))
-          (subst (λ y. Reached p r.p_pos d (suc h) r.t y (Divisor (suc h) (fr - 1)) w₂ top) (sym zeroed.comes) (
+          run_done r (ended_frame s.laid.fr_low s.laid.fr_high scaled_frame (finish_frame fin)) (Err (Factor (suc h) (fr - 1)))
+          (subst (λ y. Reached p r.p_pos d (suc h) r.t y (Err (Factor (suc h) (fr - 1))) w₂ top) (sym zeroed.comes) (
             fr - 1,
             refl,
             above_of s.laid.fr_low s.laid.fr_high,
@@ -164,10 +165,10 @@ module _ {h : ℕ} {d z : List ℕ} {p : ℕ} {e : List ℤ} {e-in : Bool} {ea :
       inverse-is : trunc g (coef o g (trunc g (λ j. R.◌⊗◌ going.k.unit (coef o g going.k.carried j)))) ≡ scaleᵛ R g going.k.unit going.k.carried
       inverse-is = trunc-coef o g _ ∙ scaled_at R g going.k.unit going.k.carried
 
-      pub end_inverse : {w₂ : List ℤ} → FinishDone h g g d w₁ w₂ kc → RunDone (suc h) d p e e-in ea x x_in a w₀ w₂ top (Inverse (kc - 1))
+      pub end_inverse : {w₂ : List ℤ} → FinishDone h g g d w₁ w₂ kc → RunDone (suc h) d p e e-in ea x x_in a w₀ w₂ top (Ok (kc - 1))
       end_inverse {w₂} fin =
-          run_done r (ended_frame s.laid.kc_low s.laid.kc_high carried_frame (finish_frame fin)) (Inverse (kc - 1))
-          (subst (λ y. Reached p r.p_pos d (suc h) r.t y (Inverse (kc - 1)) w₂ top)
+          run_done r (ended_frame s.laid.kc_low s.laid.kc_high carried_frame (finish_frame fin)) (Ok (kc - 1))
+          (subst (λ y. Reached p r.p_pos d (suc h) r.t y (Ok (kc - 1)) w₂ top)
           (sym (turn_done (level_of r) g r.t.1 r.v going.turning (omega (arith, going.k_count)))) (
             kc - 1,
             refl,

@@ -6,7 +6,7 @@
 -- found, some                 == what was found, in the sizes of the tower
 -- follows_fit                 == the places that the code computes
 -- multiplies, inverts, scales == what the three steps ask for
--- goes_on, shows, ends        == what they leave
+-- goes_on, stops              == what they leave
 use Prim.Native.Nat.{ℕ, suc, ◌+◌, ◌-◌, ◌*◌, ◌<◌, ◌≤◌}
 use native.Mathlib.Nat.{add-mul, lt_irrefl}
 use native.Mathlib.Omega.{arith}
@@ -29,14 +29,12 @@ use Rattle.products.proofs.Frames.{picked_seg, inside_kept}
 use Rattle.euclid.specs.Answer.{Answer, done}
 use Rattle.euclid.specs.Lazy.{led, unit_times}
 use Rattle.euclid.specs.Towers.{Shown, inv}
-use Rattle.sequences.specs.declared.Outcome.{Outcome}
-use Rattle.sequences.specs.declared.Outcome.TheVariants.{Done, Factor, Long}
-use Rattle.sequences.specs.declared.Turn.{Turn}
-use Rattle.sequences.specs.declared.Turn.TheVariants.{Next, Shows, Over}
+use Rattle.std.specs.Prelude.{Result, Ok, Err}
+use Rattle.sequences.specs.declared.Stop.{Stop}
 use Rattle.sequences.specs.Rows.{Acting, Between, TimesReady, TimesDone}
 use Rattle.sequences.specs.Outcomes.{InvertReady, InvertDone, Came, FollowReady, FollowDone, Followed, Follows, Besides}
 use Rattle.sequences.specs.Passes.{Clear}
-use Rattle.sequences.proofs.AnswerLaws.{came_done, came_factor, came_long}
+use Rattle.sequences.proofs.AnswerLaws.{came_done, came_stops}
 use Rattle.sequences.proofs.PlaceLaws.{worked_apart, stands_same, work≤inverse, besides_refl, besides_left, besides_right, besides_trans}
 
 module _ {i : ℕ} {d z : List ℕ} {p : ℕ} {e : List ℤ} {e-in : Bool} {ea row n unit : ℕ} {w₀ : List ℤ} {top : ℕ}
@@ -81,7 +79,7 @@ module _ {i : ℕ} {d z : List ℕ} {p : ℕ} {e : List ℤ} {e-in : Bool} {ea r
         behind : row ≡ row - 1 + 1
         behind = omega (arith, r.behind)
 
-    follow-zero : k ≡ 0 → FollowDone i d p e e-in ea row n unit w₀ w₀ top (Next 0)
+    follow-zero : k ≡ 0 → FollowDone i d p e e-in ea row n unit w₀ w₀ top (Ok 0)
     follow-zero ek = record {
       frame = besides_refl;
       done = λ p_pos t f u back ts fs us ub.
@@ -89,7 +87,7 @@ module _ {i : ℕ} {d z : List ℕ} {p : ℕ} {e : List ℤ} {e-in : Bool} {ea r
           go b (strip (is_zero p d i) n (trunc n f)) (counted b);
     }
       where
-        go : (b : Before) (y : Shape (El p d i)) → count y ≡ k → Followed p b.p_pos d i b.t b.u y (Next 0) w₀ w₀ free unit
+        go : (b : Before) (y : Shape (El p d i)) → count y ≡ k → Followed p b.p_pos d i b.t b.u y (Ok 0) w₀ w₀ free unit
         go b null q = (refl, refl)
         go b (lead m l c) q = absurd (lt_irrefl 0 (omega (arith, q, ek)))
 
@@ -129,7 +127,7 @@ module _ {i : ℕ} {d z : List ℕ} {p : ℕ} {e : List ℤ} {e-in : Bool} {ea r
       answer b = inv p b.p_pos d i b.t ((ring p b.p_pos d i b.t).◌⊗◌ b.u (leading b).c)
 
       -- by the remainder's shape
-      pub followed : {v : List ℤ} (o : Turn) → ((b : Before) → Follows p b.p_pos d i b.t b.u (leading b).m (answer b) o v free unit)
+      pub followed : {v : List ℤ} (o : Result ℕ Stop) → ((b : Before) → Follows p b.p_pos d i b.t b.u (leading b).m (answer b) o v free unit)
           → Besides free unit s top (inverse_work d i) w₀ v → FollowDone i d p e e-in ea row n unit w₀ v top o
       followed {v} o h f = record {
         frame = f;
@@ -212,7 +210,7 @@ module _ {i : ℕ} {d z : List ℕ} {p : ℕ} {e : List ℤ} {e-in : Bool} {ea r
           c_below = follow-free;
         }
 
-        module _ {w₂ : List ℤ} (c : Outcome) (inverted : InvertDone i d p e e-in ea e true free w₁ w₂ free top c) where
+        module _ {w₂ : List ℤ} (c : Result (Unit {0}) Stop) (inverted : InvertDone i d p e e-in ea e true free w₁ w₂ free top c) where
           -- what the inverse comes to
           came : (b : Before) → Came p b.p_pos d i b.t (answer b) c w₂ free
           came b = inverted.done b.p_pos b.t _ (tower₁ b times.frame b.tower) (product₁ b) (leading b).not_zero
@@ -239,7 +237,7 @@ module _ {i : ℕ} {d z : List ℕ} {p : ℕ} {e : List ℤ} {e-in : Bool} {ea r
           long₂ = inverted.frame.long ∙ times.frame.long
 
           -- it is given
-          module _ (ec : c ≡ Done) where
+          module _ (ec : c ≡ Ok tt) where
             given : (b : Before) → (j : El p d i)
                 × (answer b ≡ done j) × Stands p d i j w₂ free
             given b = came_done p b.p_pos d i b.t w₂ free c ec (answer b) (came b)
@@ -267,29 +265,21 @@ module _ {i : ℕ} {d z : List ℕ} {p : ℕ} {e : List ℤ} {e-in : Bool} {ea r
               right = unit₂ now;
             }
 
-            follow-next : {w₃ : List ℤ} → TimesDone i d p e e-in ea free unit w₂ w₃ unit top → FollowDone i d p e e-in ea row n unit w₀ w₃ top (Next k)
+            follow-next : {w₃ : List ℤ} → TimesDone i d p e e-in ea free unit w₂ w₃ unit top → FollowDone i d p e e-in ea row n unit w₀ w₃ top (Ok k)
             follow-next {w₃} scaled =
-                followed (Next k)
+                followed (Ok k)
                 (λ b.
-                subst (λ y. Follows p b.p_pos d i b.t b.u (leading b).m y (Next k) w₃ free unit) (sym (given b).1)
-                (ap Next (leading b).counts, scaled.done b.p_pos b.t (given b).0 b.u (tower₂ b) (given b).2 (unit₂ b)))
+                subst (λ y. Follows p b.p_pos d i b.t b.u (leading b).m y (Ok k) w₃ free unit) (sym (given b).1)
+                (ap Ok (leading b).counts, scaled.done b.p_pos b.t (given b).0 b.u (tower₂ b) (given b).2 (unit₂ b)))
                 (besides_trans frame₂ (besides_right (work≤inverse d i) scaled.frame))
 
-          -- a factor is shown
-          follow_shows : (m : ℕ) → c ≡ Factor m → FollowDone i d p e e-in ea row n unit w₀ w₂ top (Shows m free)
-          follow_shows m ec =
-              followed (Shows m free)
+          -- a factor is shown, or there are too many remainders
+          follow_stops : (x : Stop) → c ≡ Err x → FollowDone i d p e e-in ea row n unit w₀ w₂ top (Err x)
+          follow_stops x ec =
+              followed (Err x)
               (λ b.
-              let y = came_factor p b.p_pos d i b.t w₂ free c m ec (answer b) (came b) in
-              subst (λ q. Follows p b.p_pos d i b.t b.u (leading b).m q (Shows m free) w₂ free unit) (sym y.1) (ap (λ l. Shows l free) y.2, y.3))
-              frame₂
-
-          follow_long : c ≡ Long → FollowDone i d p e e-in ea row n unit w₀ w₂ top Over
-          follow_long ec =
-              followed Over
-              (λ b.
-              subst (λ q. Follows p b.p_pos d i b.t b.u (leading b).m q Over w₂ free unit)
-              (sym (came_long p b.p_pos d i b.t w₂ free c ec (answer b) (came b))) refl)
+              came_stops p b.p_pos d i b.t w₂ b.u (leading b).m free unit x (answer b)
+              (subst (λ y. Came p b.p_pos d i b.t (answer b) y w₂ free) ec (came b)))
               frame₂
 
 -- ---- in the words of the code
@@ -305,7 +295,7 @@ module _ {i : ℕ} {d z : List ℕ} {p : ℕ} {e : List ℤ} {e-in : Bool} {ea r
     pub found : Top i n (size d i) w₀ (row - 1 + 1) k
     found = subst (λ y. Top i n y w₀ (row - 1 + 1) k) one_size told.0
 
-    pub follows_zero : k ≡ 0 → FollowDone i d p e e-in ea row n unit w₀ w₀ top (Next 0)
+    pub follows_zero : k ≡ 0 → FollowDone i d p e e-in ea row n unit w₀ w₀ top (Ok 0)
     follows_zero = follow-zero r found
 
     module _ (more : 0 < k) where
@@ -327,18 +317,15 @@ module _ {i : ℕ} {d z : List ℕ} {p : ℕ} {e : List ℤ} {e-in : Bool} {ea r
           pub inverts : InvertReady i d z p e e-in ea e true free w₁ free top
           inverts = rw (ef, one_size) (follow-invert r found some told.1 times')
 
-          module _ {w₂ : List ℤ} {c : Outcome} (inverted : InvertDone i d p e e-in ea e true free w₁ w₂ free top c) where
+          module _ {w₂ : List ℤ} {c : Result (Unit {0}) Stop} (inverted : InvertDone i d p e e-in ea e true free w₁ w₂ free top c) where
             inverted' : InvertDone i d p e e-in ea e true (row + n * size d i) w₁ w₂ (row + n * size d i) top c
             inverted' = rw (ef, one_size) at inverted
 
-            pub scales : c ≡ Done → TimesReady i d z p e e-in ea free unit w₂ unit top
+            pub scales : c ≡ Ok tt → TimesReady i d z p e e-in ea free unit w₂ unit top
             scales ec = rw (ef, one_size) (follow-scale r found some told.1 times' c inverted' ec)
 
-            pub goes_on : c ≡ Done → {w₃ : List ℤ} → TimesDone i d p e e-in ea free unit w₂ w₃ unit top → FollowDone i d p e e-in ea row n unit w₀ w₃ top (Next k)
+            pub goes_on : c ≡ Ok tt → {w₃ : List ℤ} → TimesDone i d p e e-in ea free unit w₂ w₃ unit top → FollowDone i d p e e-in ea row n unit w₀ w₃ top (Ok k)
             goes_on ec scaled = follow-next r found some told.1 times' c inverted' ec (rw (ef, one_size) at scaled)
 
-            pub shows : (m : ℕ) → c ≡ Factor m → FollowDone i d p e e-in ea row n unit w₀ w₂ top (Shows m free)
-            shows m ec = rw (ef, one_size) (follow_shows r found some told.1 times' c inverted' m ec)
-
-            pub ends : c ≡ Long → FollowDone i d p e e-in ea row n unit w₀ w₂ top Over
-            ends ec = follow_long r found some told.1 times' c inverted' ec
+            pub stops : (x : Stop) → c ≡ Err x → FollowDone i d p e e-in ea row n unit w₀ w₂ top (Err x)
+            stops x ec = follow_stops r found some told.1 times' c inverted' x ec

@@ -25,8 +25,8 @@ use Rattle.products.proofs.Lowests.{residue_stands}
 use Rattle.euclid.specs.Answer.{Answer, done, shown, long, map}
 use Rattle.euclid.specs.Number.{inverse₀-times}
 use Rattle.euclid.specs.Shown.{shown_words}
-use Rattle.sequences.specs.declared.Turn.{Turn}
-use Rattle.sequences.specs.declared.Turn.TheVariants.{Next}
+use Rattle.std.specs.Prelude.{Result, Ok}
+use Rattle.sequences.specs.declared.Stop.{Stop}
 use Rattle.sequences.specs.Outcomes.{FollowReady, FollowDone, Follows, Besides}
 use Rattle.sequences.specs.Starts.{FollowNumberReady, Follows₀, FollowNumberDone}
 use Rattle.sequences.proofs.FollowLaws.{Before, now, leading, answer, at_stands, followed, found, some}
@@ -34,12 +34,12 @@ use Rattle.sequences.proofs.NumberLaws.{held_of}
 use Rattle.sequences.proofs.PlaceLaws.{besides_left, besides_right}
 
 -- the answer q, times u where it is an inverse, was written: that is how a turn ends whose inverse's answer is q
-follows_up : (p : ℕ) (p_pos : 0 < p) (d : List ℕ) (t : Tower p d 0) (u : El p d 0) {k : ℕ} (g : ℕ) → k ≡ suc g → (q : Answer ℕ (Residue p)) (o : Turn) (w v : List ℤ)
+follows_up : (p : ℕ) (p_pos : 0 < p) (d : List ℕ) (t : Tower p d 0) (u : El p d 0) {k : ℕ} (g : ℕ) → k ≡ suc g → (q : Answer ℕ (Residue p)) (o : Result ℕ Stop) (w v : List ℤ)
     (free unit : ℕ) → free < length w → unit < length w → Follows₀ p (map (λ j. (ring p p_pos d 0 t).◌⊗◌ j u) q) k free unit o w v
     → Follows p p_pos d 0 t u g q o v free unit
 unfolding shown_words
 follows_up p p_pos d t u g ek (done j) o w v free unit lf lu h =
-    (h.0 ∙ ap Next ek, subst (λ y. Stands p d 0 ((ring p p_pos d 0 t).◌⊗◌ j u) y unit) (sym h.1) (residue_stands p d _ w unit _ lu refl))
+    (h.0 ∙ ap Ok ek, subst (λ y. Stands p d 0 ((ring p p_pos d 0 t).◌⊗◌ j u) y unit) (sym h.1) (residue_stands p d _ w unit _ lu refl))
 follows_up p p_pos d t u g ek (shown f) o w v free unit lf lu h =
     (h.0, ap (seg free (size d 0)) h.1 ∙ put-seg (size d 0) (sym (size-zero d)) (put-set w free (pos f) lf))
 follows_up p p_pos d t u g ek long o w v free unit lf lu h = absurd h
@@ -73,7 +73,7 @@ module _ {d z : List ℕ} {p : ℕ} {e : List ℤ} {e-in : Bool} {ea row n unit 
       free_inside = free_in;
     }
 
-    number_follows : {v : List ℤ} (o : Turn) → FollowNumberDone p row n k unit w v o → FollowDone 0 d p e e-in ea row n unit w v top o
+    number_follows : {v : List ℤ} (o : Result ℕ Stop) → FollowNumberDone p row n k unit w v o → FollowDone 0 d p e e-in ea row n unit w v top o
     number_follows {v} o h = followed r told other few o each (frame h.frame)
       where
         each : (b : Before r) → Follows p b.p_pos d 0 b.t b.u (leading r told other few b).m (answer r told other few b) o v (row + n * size d 0) unit
@@ -98,6 +98,6 @@ module _ {d z : List ℕ} {p : ℕ} {e : List ℤ} {e-in : Bool} {ea row n unit 
   numbers_ask {i = zero} ei r es told more = number_asks r (found r es told) (some r es told more) told.1
 
   pub numbers_follow : {i : ℕ} → i ≡ 0 → FollowReady i d z p e e-in ea row n unit w top → {s : ℕ} → s ≡ get_or z i 0 → Top i n s w (row - 1 + 1) k × (k ≤ n) → 0 < k
-      → {v : List ℤ} (o : Turn) → FollowNumberDone p row n k unit w v o → FollowDone i d p e e-in ea row n unit w v top o
+      → {v : List ℤ} (o : Result ℕ Stop) → FollowNumberDone p row n k unit w v o → FollowDone i d p e e-in ea row n unit w v top o
   numbers_follow {i = suc i} ei r es told more o h = absurd (lt_irrefl 0 (omega arith))
   numbers_follow {i = zero} ei r es told more o h = number_follows r (found r es told) (some r es told more) told.1 o h

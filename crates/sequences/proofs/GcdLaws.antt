@@ -34,10 +34,11 @@ use Rattle.euclid.specs.Lazy.{Led, whole, nothing_linear, lazy_constant}
 use Rattle.euclid.proofs.Lazy.{lazy_fuel, lazy_swap}
 use Rattle.euclid.proofs.One.{inv-one}
 use Rattle.euclid.specs.Towers.{Shown, level}
-use Rattle.sequences.specs.declared.Found.{Found}
-use Rattle.sequences.specs.declared.Found.TheVariants.{Greatest, Divides}
-use Rattle.sequences.specs.declared.Turn.{Turn}
-use Rattle.sequences.specs.declared.Turn.TheVariants.{Next, Shows, Over}
+use Rattle.std.specs.Prelude.{Result, Ok, Err}
+use Rattle.sequences.specs.declared.Stop.{Stop}
+use Rattle.sequences.specs.declared.Stop.TheVariants.{Factor, Long}
+use Rattle.sequences.specs.declared.Greatest.{Greatest}
+use Rattle.sequences.specs.Gcds.{greatest}
 use Rattle.sequences.specs.Rows.{DivideReady, DivideDone}
 use Rattle.sequences.specs.Outcomes.{FollowReady, FollowDone}
 use Rattle.sequences.specs.Gcds.{Sited, Upwards, Finds, MonicReady, MonicDone, TurnReady, TurnedBy, TurnDone, LedStands, Last, Onward, Sought, TurnsReady, TurnsDone}
@@ -110,11 +111,11 @@ module _ {i : ℕ} {d z : List ℕ} {p : ℕ} {e : List ℤ} {e-in : Bool} {ea f
     follow = λ h v y. subst (λ a. FollowReady i d z p e e-in ea fr a fu v top) (sym k-low) (follow_asks sited' tower sf sk (fits h) (divided' y));
   }
 
-  module _ {v : List ℤ} (c : Turn) (y : TurnDone i d p e e-in ea fr fu m gr gu n w v top c) where
+  module _ {v : List ℤ} (c : Result ℕ Stop) (y : TurnDone i d p e e-in ea fr fu m gr gu n w v top c) where
     followed' : (x : TurnedBy i d p e e-in ea fr fu m gr gu n w v top c) → FollowDone i d p e e-in ea fr k.degree fu x.v v top c
     followed' x = subst (λ a. FollowDone i d p e e-in ea fr a fu x.v v top c) k-low x.followed
 
-    pub turn_steps : (j : ℕ) → c ≡ Next j → Stepped i d z p e e-in ea fr fu gr gu n p_pos t answer j w v top
+    pub turn_steps : (j : ℕ) → c ≡ Ok j → Stepped i d z p e e-in ea fr fu gr gu n p_pos t answer j w v top
     turn_steps j ec = go (le_or_lt n m)
       where
         go : (n ≤ m) ⊎ (m < n) → Stepped i d z p e e-in ea fr fu gr gu n p_pos t answer j w v top
@@ -131,7 +132,7 @@ module _ {i : ℕ} {d z : List ℕ} {p : ℕ} {e : List ℤ} {e-in : Bool} {ea f
               sought = subst (λ a. Sought p p_pos d i t answer gr gu a fr fu j v) (sym k_many) next.0;
             }
         go (inr h) =
-            let eq : c ≡ Next m = (y.lower h).0 in
+            let eq : c ≡ Ok m = (y.lower h).0 in
             let ej : j ≡ m = cc in
             let ev : v ≡ w = (y.lower h).1 in
             record {
@@ -162,21 +163,21 @@ module _ {i : ℕ} {d z : List ℕ} {p : ℕ} {e : List ℤ} {e-in : Bool} {ea f
             }
 
     -- a remainder was taken
-    taken : (A : Type 0) → ((j : ℕ) → c ≡ Next j → A) → ((n ≤ m) → A) → A
+    taken : (A : Type 0) → ((j : ℕ) → c ≡ Ok j → A) → ((n ≤ m) → A) → A
     taken A next_one h = go (le_or_lt n m)
       where
         go : (n ≤ m) ⊎ (m < n) → A
         go (inl l) = h l
         go (inr l) = next_one m (y.lower l).0
 
-    pub turn_shows : (l at : ℕ) → c ≡ Shows l at → Finds p p_pos d i t answer (Divides l at) v top × Upwards i d fr fu gr gu w v top
+    pub turn_shows : (l at : ℕ) → c ≡ Err (Factor l at) → Finds p p_pos d i t answer (Err (Factor l at)) v top × Upwards i d fr fu gr gu w v top
     turn_shows l at ec = taken _ (λ j en. let bad : ◌≡◌ {A = ℕ} 0 1 = cc in absurd (lt_irrefl 0 (omega arith))) (λ h.
         let x = y.turned h in (
           turned_shows sited' tower sf sk (fits h) (divided' x.divided) c (followed' x) onward.comes l at ec,
           turned_up sited' tower sf sk (fits h) (divided' x.divided) c (followed' x),
         ))
 
-    pub turn_over : c ≡ Over → ⊥
+    pub turn_over : c ≡ Err Long → ⊥
     turn_over ec = taken ⊥ (λ j en. let bad : ◌≡◌ {A = ℕ} 0 1 = cc in lt_irrefl 0 (omega arith)) (λ h.
         let x = y.turned h in turned_over sited' tower sf sk (fits h) (divided' x.divided) c (followed' x) ec)
 
@@ -187,19 +188,19 @@ module _ {i : ℕ} {d z : List ℕ} {p : ℕ} {e : List ℤ} {e-in : Bool} {ea f
     pub turns_asks : TurnReady i d z p e e-in ea fr fu m gr gu n w top
     turns_asks = turn_asks r.sited r.tower r.sought some
 
-    module _ {v : List ℤ} (c : Turn) (y : TurnDone i d p e e-in ea fr fu m gr gu n w v top c) where
-      stepped : (j : ℕ) → c ≡ Next j → Stepped i d z p e e-in ea fr fu gr gu n r.p_pos r.t r.answer j w v top
+    module _ {v : List ℤ} (c : Result ℕ Stop) (y : TurnDone i d p e e-in ea fr fu m gr gu n w v top c) where
+      stepped : (j : ℕ) → c ≡ Ok j → Stepped i d z p e e-in ea fr fu gr gu n r.p_pos r.t r.answer j w v top
       stepped j ec = turn_steps r.sited r.tower r.sought some c y j ec
 
-      pub turns_fewer : (j : ℕ) → c ≡ Next j → j < n
+      pub turns_fewer : (j : ℕ) → c ≡ Ok j → j < n
       turns_fewer j ec = (stepped j ec).fewer
 
-      pub turns_next : (j : ℕ) → c ≡ Next j → TurnsReady i d z p e e-in ea gr gu n fr fu j v top
+      pub turns_next : (j : ℕ) → c ≡ Ok j → TurnsReady i d z p e e-in ea gr gu n fr fu j v top
       turns_next j ec =
           let x = stepped j ec in
           record { sited = x.sited; p_pos = r.p_pos; t = r.t; answer = r.answer; tower = x.tower; sought = x.sought }
 
-      pub turns-after : (j : ℕ) → c ≡ Next j → (u : List ℤ) (o : Found) → TurnsDone i d p e e-in ea gr gu n fr fu j v u top o
+      pub turns-after : (j : ℕ) → c ≡ Ok j → (u : List ℤ) (o : Result Greatest Stop) → TurnsDone i d p e e-in ea gr gu n fr fu j v u top o
           → TurnsDone i d p e e-in ea fr fu m gr gu n w u top o
       turns-after j ec u o l = record {
         frame = up_trans i d fr fu gr gu top w v u (stepped j ec).up (up_swap i d gr gu fr fu top v u l.frame);
@@ -208,13 +209,13 @@ module _ {i : ℕ} {d z : List ℕ} {p : ℕ} {e : List ℤ} {e-in : Bool} {ea f
             l.done p_pos t answer x.tower x.sought;
       }
 
-      pub turns_shows : (l at : ℕ) → c ≡ Shows l at → TurnsDone i d p e e-in ea fr fu m gr gu n w v top (Divides l at)
+      pub turns_shows : (l at : ℕ) → c ≡ Err (Factor l at) → TurnsDone i d p e e-in ea fr fu m gr gu n w v top (Err (Factor l at))
       turns_shows l at ec = record {
         frame = (turn_shows r.sited r.tower r.sought some c y l at ec).1;
         done = λ p_pos t answer tower sought. (turn_shows r.sited tower sought some c y l at ec).0;
       }
 
-      pub turns_over : c ≡ Over → ⊥
+      pub turns_over : c ≡ Err Long → ⊥
       turns_over ec = turn_over r.sited r.tower r.sought some c y ec
 
   -- ---- the second is a constant: the GCD is 1, in its row
@@ -225,12 +226,12 @@ module _ {i : ℕ} {d z : List ℕ} {p : ℕ} {e : List ℤ} {e-in : Bool} {ea f
     pub turns-ones : Element i d z w gr × Positive i d
     turns-ones = (record { low = r.sited.low; sized = r.sited.sized; inside = omega (arith, row_ends, r.sited.room) }, r.sited.positive)
 
-    pub turns-one : {v : List ℤ} → Put gr (one_words d i) w v → TurnsDone i d p e e-in ea fr fu m gr gu n w v top (Greatest gr 1)
+    pub turns-one : {v : List ℤ} → Put gr (one_words d i) w v → TurnsDone i d p e e-in ea fr fu m gr gu n w v top (Ok (greatest gr 1))
     turns-one {v} put = record {
       frame = λ base a b c l h. kept-wide c (omega (arith, row_ends, h)) (put-kept (size d i) (one_long d i r.sited.positive) put);
       done = λ p_pos t answer tower sought.
           let y = onward r.sited tower sought (omega (arith, single)) in
-          subst (λ a. Finds p p_pos d i t a (Greatest gr 1) v top)
+          subst (λ a. Finds p p_pos d i t a (Ok (greatest gr 1)) v top)
           (sym (y.comes ∙ ap (map wrap) (lazy_constant (level p p_pos d i t) (nothing (El p d i)) y.k.degree sought.f y.k (omega (arith, single, y.stands.count)))))
           (gr, refl, omega (arith, row_ends), only p_pos t);
     }
@@ -272,16 +273,16 @@ module _ {i : ℕ} {d z : List ℕ} {p : ℕ} {e : List ℤ} {e-in : Bool} {ea f
           };
         }
 
-    pub turns_end : {v : List ℤ} (o : Found) → MonicDone i d p e e-in ea fr fu m w v top o → TurnsDone i d p e e-in ea fr fu m gr gu n w v top o
+    pub turns_end : {v : List ℤ} (o : Greatest) → MonicDone i d p e e-in ea fr fu m w v top o → TurnsDone i d p e e-in ea fr fu m gr gu n w v top (Ok o)
     turns_end {v} o y = record {
       frame = up-worked i d fr fu gr gu top (inl (omega arith)) r.sited.first.row_below (work≤inverse d i) (y.some many).frame;
       done = λ p_pos t answer tower sought.
           let f = sought.f in
           let count = sought.stands.count in
-          let eo : o ≡ Greatest fr (suc f.degree) = y.here ∙ ap (Greatest fr) count in
-          subst (λ a. Finds p p_pos d i t a o v top) (sym (last sought).comes) (
+          let eo : o ≡ greatest fr (suc f.degree) = y.here ∙ ap (greatest fr) count in
+          subst (λ a. Finds p p_pos d i t a (Ok o) v top) (sym (last sought).comes) (
             fr,
-            eo,
+            ap Ok eo,
             omega (arith, r.sited.first.row_below, ap (λ a. a * size d i) count),
             λ j l.
                 (y.some many).done p_pos t f.unit (coef (group p p_pos d i).𝟘 (suc f.degree) (whole f)) tower sought.stands.inverse
@@ -297,7 +298,7 @@ module _ {i : ℕ} {d z : List ℕ} {p : ℕ} {e : List ℤ} {e-in : Bool} {ea f
 pub record Turning (i : ℕ) (d z : List ℕ) (p : ℕ) (e : List ℤ) (e-in : Bool) (ea fr₀ fu₀ m₀ gr₀ gu₀ n₀ : ℕ) (w₀ : List ℤ)
     (top fr fu m gr gu n left : ℕ) (w : List ℤ) : Type 0 where
   pub ready : TurnsReady i d z p e e-in ea fr fu m gr gu n w top
-  pub after : (v : List ℤ) (o : Found) → TurnsDone i d p e e-in ea fr fu m gr gu n w v top o → TurnsDone i d p e e-in ea fr₀ fu₀ m₀ gr₀ gu₀ n₀ w₀ v top o
+  pub after : (v : List ℤ) (o : Result Greatest Stop) → TurnsDone i d p e e-in ea fr fu m gr gu n w v top o → TurnsDone i d p e e-in ea fr₀ fu₀ m₀ gr₀ gu₀ n₀ w₀ v top o
   pub few : n < left
 
 module _ {i : ℕ} {d z : List ℕ} {p : ℕ} {e : List ℤ} {e-in : Bool} {ea fr fu m gr gu n : ℕ} {w : List ℤ} {top : ℕ}
@@ -309,7 +310,7 @@ module _ {i : ℕ} {d z : List ℕ} {p : ℕ} {e : List ℤ} {e-in : Bool} {ea f
       words : (k : ℕ) → k ≤ k * size d i
       words k = omega (arith, mul-le-mul_right k (size-pos d i), mul_comm (size d i) k)
 
-  pub turning_start : {larger : ℕ} → larger ≡ max m n → Turning i d z p e e-in ea fr fu m gr gu n w top fr fu m gr gu n (larger + 1) w
+  pub turning_start : {left : ℕ} → max m n < left → Turning i d z p e e-in ea fr fu m gr gu n w top fr fu m gr gu n left w
   turning_start h = record { ready = r; after = λ v o y. y; few = omega (arith, h) }
 
 module _ {i : ℕ} {d z : List ℕ} {p : ℕ} {e : List ℤ} {e-in : Bool} {ea fr₀ fu₀ m₀ gr₀ gu₀ n₀ : ℕ} {w₀ : List ℤ} {top fr fu m gr gu n left : ℕ} {w : List ℤ}
@@ -317,18 +318,19 @@ module _ {i : ℕ} {d z : List ℕ} {p : ℕ} {e : List ℤ} {e-in : Bool} {ea f
   pub turning_left : 0 < left
   turning_left = omega (arith, s.few)
 
-  module _ (some : 0 < n) {v : List ℤ} (c : Turn) (y : TurnDone i d p e e-in ea fr fu m gr gu n w v top c) where
-    pub turning_next : (j : ℕ) → c ≡ Next j → Turning i d z p e e-in ea fr₀ fu₀ m₀ gr₀ gu₀ n₀ w₀ top gr gu n fr fu j (left - 1) v
-    turning_next j ec = record {
+  module _ (some : 0 < n) {v : List ℤ} (c : Result ℕ Stop) (y : TurnDone i d p e e-in ea fr fu m gr gu n w v top c) where
+    pub turning_next : {left' : ℕ} → left ≤ suc left' → (j : ℕ) → c ≡ Ok j → Turning i d z p e e-in ea fr₀ fu₀ m₀ gr₀ gu₀ n₀ w₀ top gr gu n fr fu j left' v
+    turning_next ed j ec = record {
       ready = turns_next s.ready some c y j ec;
       after = λ u o l. s.after u o (turns-after s.ready some c y j ec u o l);
-      few = omega (arith, turns_fewer s.ready some c y j ec, s.few);
+      few = omega (arith, turns_fewer s.ready some c y j ec, s.few, ed);
     }
 
-    pub turning_shows : (l at : ℕ) → c ≡ Shows l at → TurnsDone i d p e e-in ea fr₀ fu₀ m₀ gr₀ gu₀ n₀ w₀ v top (Divides l at)
-    turning_shows l at ec = s.after v (Divides l at) (turns_shows s.ready some c y l at ec)
+    pub turning_stops : (x : Stop) → c ≡ Err x → TurnsDone i d p e e-in ea fr₀ fu₀ m₀ gr₀ gu₀ n₀ w₀ v top (Err x)
+    turning_stops (Factor l at) ec = s.after v (Err (Factor l at)) (turns_shows s.ready some c y l at ec)
+    turning_stops Long ec = absurd (turns_over s.ready some c y ec)
 
 -- the store is as long as before
-pub turns_long : {i : ℕ} {d : List ℕ} {p : ℕ} {e : List ℤ} {e-in : Bool} {ea fr fu m gr gu n : ℕ} {w v : List ℤ} {top : ℕ} {o : Found}
+pub turns_long : {i : ℕ} {d : List ℕ} {p : ℕ} {e : List ℤ} {e-in : Bool} {ea fr fu m gr gu n : ℕ} {w v : List ℤ} {top : ℕ} {o : Result Greatest Stop}
     → TurnsDone i d p e e-in ea fr fu m gr gu n w v top o → length v ≡ length w
 turns_long y = (y.frame 0 (omega arith) (omega arith) (omega arith) (omega arith) (omega arith)).long

@@ -34,8 +34,9 @@ use Rattle.euclid.specs.Lazy.{Led, led}
 use Rattle.euclid.specs.Steps.{make-lead, make_shown}
 use Rattle.euclid.specs.Towers.{Shown, shown_level, inv, level}
 use Rattle.euclid.proofs.Towers.{good}
-use Rattle.sequences.specs.declared.Outcome.{Outcome}
-use Rattle.sequences.specs.declared.Outcome.TheVariants.{Done, Factor, Long}
+use Rattle.std.specs.Prelude.{Result, Ok, Err}
+use Rattle.sequences.specs.declared.Stop.{Stop}
+use Rattle.sequences.specs.declared.Stop.TheVariants.{Factor, Long}
 use Rattle.sequences.specs.Outcomes.{Came, FactorStands}
 use Rattle.sequences.specs.Gcds.{Sited, Upwards, Polynomial, Inverted, LeadReady, LeadDone, LedStands}
 use Rattle.sequences.specs.Passes.{Clear}
@@ -133,7 +134,7 @@ module _ {i : ℕ} {d z : List ℕ} {p : ℕ} {e : List ℤ} {e-in : Bool} {ea f
         };
   }
 
-  module _ {v : List ℤ} (r : Outcome) (y : LeadDone i d p e e-in ea fr fu m w v top r) where
+  module _ {v : List ℤ} (r : Result (Unit {0}) Stop) (y : LeadDone i d p e e-in ea fr fu m w v top r) where
     -- only the words of the inverse, and those above top
     frame : Worked fu (size d i) top (inverse_work d i) w v
     frame = go (le_or_lt m 0)
@@ -178,43 +179,47 @@ module _ {i : ℕ} {d z : List ℕ} {p : ℕ} {e : List ℤ} {e-in : Bool} {ea f
     came l = (y.some l).done p_pos t (a (m - 1)) q.tower (q.left.stands (m - 1) (omega (arith, l))) (q.left.leads l)
 
     -- zero has no leading coefficient
-    some-lead : ¬ (r ≡ Done) → 0 < m
+    some-lead : ¬ (r ≡ Ok tt) → 0 < m
     some-lead other = go (le_or_lt m 0)
       where
         go : (m ≤ 0) ⊎ (0 < m) → 0 < m
         go (inl h) = absurd (other (y.none (omega (arith, h))).0)
         go (inr h) = h
 
-    pub lead_given : r ≡ Done → Inverted p p_pos d i t m a v fu
+    pub lead_given : r ≡ Ok tt → Inverted p p_pos d i t m a v fu
     lead_given er = record { given = λ l. go _ refl (came l) }
       where
         go : (x : Answer (Shown p d i) (El p d i)) → inv p p_pos d i t (a (m - 1)) ≡ x → Came p p_pos d i t x r v fu
             → (u : El p d i) × (inv p p_pos d i t (a (m - 1)) ≡ done u) × Stands p d i u v fu
         go (done u) ex h = (u, ex, h.1)
-        go (shown f) ex h = let er' : r ≡ Factor (shown_level p d i f) = h.0 in let bad : ◌≡◌ {A = ℕ} 0 1 = cc in absurd (lt_irrefl 0 (omega arith))
-        go long ex h = let er' : r ≡ Long = h in let bad : ◌≡◌ {A = ℕ} 0 1 = cc in absurd (lt_irrefl 0 (omega arith))
+        go (shown f) ex h = let er' : r ≡ Err (Factor (shown_level p d i f) fu) = h.0 in let bad : ◌≡◌ {A = ℕ} 0 1 = cc in absurd (lt_irrefl 0 (omega arith))
+        go long ex h = let er' : r ≡ Err Long = h in let bad : ◌≡◌ {A = ℕ} 0 1 = cc in absurd (lt_irrefl 0 (omega arith))
 
-    pub lead_shown : (l : ℕ) → r ≡ Factor l
-        → (0 < m) × ((x : Shown p d i) × (inv p p_pos d i t (a (m - 1)) ≡ shown x) × (l ≡ shown_level p d i x) × FactorStands p p_pos d i t x v fu)
-    lead_shown l er = (some, go _ refl (came some))
+    pub lead_shown : (l at : ℕ) → r ≡ Err (Factor l at)
+        → (0 < m) × ((x : Shown p d i) × (inv p p_pos d i t (a (m - 1)) ≡ shown x) × (l ≡ shown_level p d i x) × (at ≡ fu) × FactorStands p p_pos d i t x v fu)
+    lead_shown l at er = (some, go _ refl (came some))
       where
         some : 0 < m
         some = some-lead (λ h. let bad : ◌≡◌ {A = ℕ} 0 1 = cc in lt_irrefl 0 (omega arith))
 
         go : (x : Answer (Shown p d i) (El p d i)) → inv p p_pos d i t (a (m - 1)) ≡ x → Came p p_pos d i t x r v fu
-            → (x : Shown p d i) × (inv p p_pos d i t (a (m - 1)) ≡ shown x) × (l ≡ shown_level p d i x) × FactorStands p p_pos d i t x v fu
-        go (done u) ex h = let er' : r ≡ Done = h.0 in let bad : ◌≡◌ {A = ℕ} 0 1 = cc in absurd (lt_irrefl 0 (omega arith))
-        go (shown f) ex h = let er' : r ≡ Factor (shown_level p d i f) = h.0 in let el : l ≡ shown_level p d i f = cc in (f, ex, el, h.1)
-        go long ex h = let er' : r ≡ Long = h in let bad : ◌≡◌ {A = ℕ} 0 1 = cc in absurd (lt_irrefl 0 (omega arith))
+            → (x : Shown p d i) × (inv p p_pos d i t (a (m - 1)) ≡ shown x) × (l ≡ shown_level p d i x) × (at ≡ fu) × FactorStands p p_pos d i t x v fu
+        go (done u) ex h = let er' : r ≡ Ok tt = h.0 in let bad : ◌≡◌ {A = ℕ} 0 1 = cc in absurd (lt_irrefl 0 (omega arith))
+        go (shown f) ex h =
+            let er' : r ≡ Err (Factor (shown_level p d i f) fu) = h.0 in
+            let el : l ≡ shown_level p d i f = cc in
+            let here : at ≡ fu = cc in
+            (f, ex, el, here, h.1)
+        go long ex h = let er' : r ≡ Err Long = h in let bad : ◌≡◌ {A = ℕ} 0 1 = cc in absurd (lt_irrefl 0 (omega arith))
 
     -- it is never number 11
-    pub lead_over : r ≡ Long → ⊥
+    pub lead_over : r ≡ Err Long → ⊥
     lead_over er = go _ refl (came some)
       where
         some : 0 < m
         some = some-lead (λ h. let bad : ◌≡◌ {A = ℕ} 0 1 = cc in lt_irrefl 0 (omega arith))
 
         go : (x : Answer (Shown p d i) (El p d i)) → inv p p_pos d i t (a (m - 1)) ≡ x → Came p p_pos d i t x r v fu → ⊥
-        go (done u) ex h = let er' : r ≡ Done = h.0 in let bad : ◌≡◌ {A = ℕ} 0 1 = cc in lt_irrefl 0 (omega arith)
-        go (shown f) ex h = let er' : r ≡ Factor (shown_level p d i f) = h.0 in let bad : ◌≡◌ {A = ℕ} 0 1 = cc in lt_irrefl 0 (omega arith)
+        go (done u) ex h = let er' : r ≡ Ok tt = h.0 in let bad : ◌≡◌ {A = ℕ} 0 1 = cc in lt_irrefl 0 (omega arith)
+        go (shown f) ex h = let er' : r ≡ Err (Factor (shown_level p d i f) fu) = h.0 in let bad : ◌≡◌ {A = ℕ} 0 1 = cc in lt_irrefl 0 (omega arith)
         go long ex h = inv_never_long (level p p_pos d i t) (good p p_pos d i t) (a (m - 1)) (q.left.leads some) ex

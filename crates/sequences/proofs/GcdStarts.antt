@@ -25,10 +25,11 @@ use Rattle.euclid.specs.Shown.{shown_fits}
 use Rattle.euclid.specs.Steps.{make_null, gcd-first as first-shows, gcd_second as second-shows}
 use Rattle.euclid.specs.Towers.{Shown, shown_level, inv, level}
 use Rattle.euclid.proofs.Towers.{good}
-use Rattle.sequences.specs.declared.Found.{Found}
-use Rattle.sequences.specs.declared.Found.TheVariants.{Greatest, Divides}
-use Rattle.sequences.specs.declared.Outcome.{Outcome}
-use Rattle.sequences.specs.declared.Outcome.TheVariants.{Done, Factor, Long}
+use Rattle.std.specs.Prelude.{Result, Ok, Err}
+use Rattle.sequences.specs.declared.Stop.{Stop}
+use Rattle.sequences.specs.declared.Stop.TheVariants.{Factor, Long}
+use Rattle.sequences.specs.declared.Greatest.{Greatest}
+use Rattle.sequences.specs.Gcds.{greatest}
 use Rattle.sequences.specs.Outcomes.{FactorStands}
 use Rattle.sequences.specs.Gcds.{Sited, Upwards, Finds, Inverted, GcdLedReady, GcdLedDone, GcdReady, GcdDone, LeadReady, LeadDone, MonicReady, MonicDone, Sought, TurnsReady, TurnsDone}
 use Rattle.sequences.proofs.GcdPlaces.{sited_swap, up_refl, up_trans, up_swap}
@@ -116,10 +117,10 @@ module _ {p : ℕ} {p_pos : 0 < p} {d : List ℕ} {i : ℕ} {t : Tower p d i} {e
 -- a factor whose words stand at a place of an inverse
 shows : {i : ℕ} {d z : List ℕ} {p : ℕ} {e : List ℤ} {e-in : Bool} {ea fr fu m gr gu n : ℕ} {w : List ℤ} {top : ℕ} → Sited i d z p e e-in ea fr fu m gr gu n w top
     → (p_pos : 0 < p) (t : Tower p d i) (v : List ℤ) (l at : ℕ) (x : Shown p d i) (y : Answer (Shown p d i) (Made (El p d i) (Unit {0}))) → y ≡ shown x
-    → l ≡ shown_level p d i x → at + size d i ≤ top → FactorStands p p_pos d i t x v at → Finds p p_pos d i t y (Divides l at) v top
+    → l ≡ shown_level p d i x → at + size d i ≤ top → FactorStands p p_pos d i t x v at → Finds p p_pos d i t y (Err (Factor l at)) v top
 shows {i} {d} {p = p} {top = top} s p_pos t v l at x y ey el h q =
-    subst (λ y. Finds p p_pos d i t y (Divides l at) v top) (sym ey)
-    (at, ap (λ k. Divides k at) el, omega (arith, h, shown_fits p p_pos d i (record { p_two = s.two; degrees = s.positive.some }) x), q)
+    subst (λ y. Finds p p_pos d i t y (Err (Factor l at)) v top) (sym ey)
+    (at, ap (λ k. Err (Factor k at)) el, omega (arith, h, shown_fits p p_pos d i (record { p_two = s.two; degrees = s.positive.some }) x), q)
 
 -- ---- the second's leading coefficient, and what follows
 module _ {i : ℕ} {d z : List ℕ} {p : ℕ} {e : List ℤ} {e-in : Bool} {ea fr fu m gr gu n : ℕ} {w : List ℤ} {top : ℕ}
@@ -131,7 +132,7 @@ module _ {i : ℕ} {d z : List ℕ} {p : ℕ} {e : List ℤ} {e-in : Bool} {ea f
   held = record { tower = r.ready.tower; left = r.ready.left; right = r.ready.right }
 
   -- whatever stands there comes to what was found
-  close : {v : List ℤ} (o : Found) → Upwards i d fr fu gr gu w v top
+  close : {v : List ℤ} (o : Result Greatest Stop) → Upwards i d fr fu gr gu w v top
       → ((p_pos : 0 < p) (t : Tower p d i) (a b : ℕ → El p d i) → Before p_pos t a b → Inverted p p_pos d i t m a w fu
       → Finds p p_pos d i t (gcd (level p p_pos d i t) m (trunc m a) n (trunc n b)) o v top)
       → GcdLedDone i d p e e-in ea fr fu m gr gu n w v top o
@@ -143,20 +144,22 @@ module _ {i : ℕ} {d z : List ℕ} {p : ℕ} {e : List ℤ} {e-in : Bool} {ea f
   pub gcd_second : LeadReady i d z p e e-in ea gr gu n w top
   gcd_second = lead_asks sited₁ (held_swap held)
 
-  module _ {w₂ : List ℤ} (c : Outcome) (y : LeadDone i d p e e-in ea gr gu n w w₂ top c) where
+  module _ {w₂ : List ℤ} (c : Result (Unit {0}) Stop) (y : LeadDone i d p e e-in ea gr gu n w w₂ top c) where
     up₂ : Upwards i d fr fu gr gu w w₂ top
     up₂ = up_swap i d gr gu fr fu top w w₂ (lead_up sited₁ (held_swap held) c y)
 
-    pub gcd_factor_2 : (l : ℕ) → c ≡ Factor l → GcdLedDone i d p e e-in ea fr fu m gr gu n w w₂ top (Divides l gu)
-    gcd_factor_2 l ec =
-        close (Divides l gu) up₂ (λ p_pos t a b h q.
-        let x = lead_shown sited₁ (held_swap h) c y l ec in
-        shows r.ready.sited p_pos t w₂ l gu x.1.0 _ (seek_second h q x.0 x.1.0 x.1.1) x.1.2 r.ready.sited.second.unit_below x.1.3)
+    gcd_factor_2 : (l at : ℕ) → c ≡ Err (Factor l at) → GcdLedDone i d p e e-in ea fr fu m gr gu n w w₂ top (Err (Factor l at))
+    gcd_factor_2 l at ec =
+        close (Err (Factor l at)) up₂ (λ p_pos t a b h q.
+        let x = lead_shown sited₁ (held_swap h) c y l at ec in
+        shows r.ready.sited p_pos t w₂ l at x.1.0 _ (seek_second h q x.0 x.1.0 x.1.1) x.1.2 (omega (arith, x.1.3, r.ready.sited.second.unit_below))
+        (subst (FactorStands p p_pos d i t x.1.0 w₂) (sym x.1.3) x.1.4))
 
-    pub gcd_over_2 : c ≡ Long → ⊥
-    gcd_over_2 ec = lead_over sited₁ (held_swap held) c y ec
+    pub gcd_stops_2 : (x : Stop) → c ≡ Err x → GcdLedDone i d p e e-in ea fr fu m gr gu n w w₂ top (Err x)
+    gcd_stops_2 (Factor l at) ec = gcd_factor_2 l at ec
+    gcd_stops_2 Long ec = absurd (lead_over sited₁ (held_swap held) c y ec)
 
-    module _ (ec : c ≡ Done) where
+    module _ (ec : c ≡ Ok tt) where
       sited₂ : Sited i d z p e e-in ea fr fu m gr gu n w₂ top
       sited₂ = sited_swap (lead_sited sited₁ (held_swap held) c y)
 
@@ -182,7 +185,7 @@ module _ {i : ℕ} {d z : List ℕ} {p : ℕ} {e : List ℤ} {e-in : Bool} {ea f
           sought = seek_turns (held₂ held) (first₂ held r.inverted) (second₂ held) some;
         }
 
-        pub gcd-sought : {v : List ℤ} (o : Found) → TurnsDone i d p e e-in ea fr fu m gr gu n w₂ v top o → GcdLedDone i d p e e-in ea fr fu m gr gu n w v top o
+        pub gcd-sought : {v : List ℤ} (o : Result Greatest Stop) → TurnsDone i d p e e-in ea fr fu m gr gu n w₂ v top o → GcdLedDone i d p e e-in ea fr fu m gr gu n w v top o
         gcd-sought {v} o l =
             close o (up_trans i d fr fu gr gu top w w₂ v up₂ l.frame) (λ p_pos t a b h q.
             l.done p_pos t _ (held₂ h).tower (seek_turns (held₂ h) (first₂ h q) (second₂ h) some))
@@ -202,18 +205,18 @@ module _ {i : ℕ} {d z : List ℕ} {p : ℕ} {e : List ℤ} {e-in : Bool} {ea f
         pub gcd-monic : MonicReady i d z p e e-in ea gr gu n w₂ top
         gcd-monic = record { some = λ l. (turns-monic (other l) none).some l }
 
-        pub gcd_end : {v : List ℤ} (o : Found) → MonicDone i d p e e-in ea gr gu n w₂ v top o → GcdLedDone i d p e e-in ea fr fu m gr gu n w v top o
+        pub gcd_end : {v : List ℤ} (o : Greatest) → MonicDone i d p e e-in ea gr gu n w₂ v top o → GcdLedDone i d p e e-in ea fr fu m gr gu n w v top (Ok o)
         gcd_end {v} o l = go (le_or_lt n 0)
           where
-            go : (n ≤ 0) ⊎ (0 < n) → GcdLedDone i d p e e-in ea fr fu m gr gu n w v top o
+            go : (n ≤ 0) ⊎ (0 < n) → GcdLedDone i d p e e-in ea fr fu m gr gu n w v top (Ok o)
             go (inl h) =
                 let en : n ≡ 0 = omega (arith, h) in
-                close o (up_trans i d fr fu gr gu top w w₂ v up₂ (up_refl i d fr fu gr gu top w₂ v (l.none en))) (λ p_pos t a b x q.
-                subst (λ y. Finds p p_pos d i t y o v top) (sym (seek_none (held₂ x) none en))
-                (gr, l.here ∙ ap (Greatest gr) en, omega (arith, r.ready.sited.second.row_below), λ j b. absurd (lt_irrefl 0 (omega (arith, b)))))
+                close (Ok o) (up_trans i d fr fu gr gu top w w₂ v up₂ (up_refl i d fr fu gr gu top w₂ v (l.none en))) (λ p_pos t a b x q.
+                subst (λ y. Finds p p_pos d i t y (Ok o) v top) (sym (seek_none (held₂ x) none en))
+                (gr, ap Ok (l.here ∙ ap (greatest gr) en), omega (arith, r.ready.sited.second.row_below), λ j b. absurd (lt_irrefl 0 (omega (arith, b)))))
             go (inr h) =
                 let ended = turns_end (other h) none o l in
-                close o (up_trans i d fr fu gr gu top w w₂ v up₂ (up_swap i d gr gu fr fu top w₂ v ended.frame)) (λ p_pos t a b x q.
+                close (Ok o) (up_trans i d fr fu gr gu top w w₂ v up₂ (up_swap i d gr gu fr fu top w₂ v ended.frame)) (λ p_pos t a b x q.
                 ended.done p_pos t _ (held₂ x).tower (seek_other (held₂ x) (second₂ x) none h))
 
 -- ---- the first's leading coefficient, and what follows
@@ -225,20 +228,22 @@ module _ {i : ℕ} {d z : List ℕ} {p : ℕ} {e : List ℤ} {e-in : Bool} {ea f
   pub gcd-first : LeadReady i d z p e e-in ea fr fu m w top
   gcd-first = lead_asks r.sited given
 
-  module _ {w₁ : List ℤ} (c : Outcome) (y : LeadDone i d p e e-in ea fr fu m w w₁ top c) where
-    pub gcd_factor : (l : ℕ) → c ≡ Factor l → GcdDone i d p e e-in ea fr fu m gr gu n w w₁ top (Divides l fu)
-    gcd_factor l ec = record {
+  module _ {w₁ : List ℤ} (c : Result (Unit {0}) Stop) (y : LeadDone i d p e e-in ea fr fu m w w₁ top c) where
+    gcd_factor : (l at : ℕ) → c ≡ Err (Factor l at) → GcdDone i d p e e-in ea fr fu m gr gu n w w₁ top (Err (Factor l at))
+    gcd_factor l at ec = record {
       frame = lead_up r.sited given c y;
       done = λ p_pos t a b tower left right.
           let h : Held p p_pos d i t e e-in ea fr m gr n a b w = record { tower = tower; left = left; right = right } in
-          let x = lead_shown r.sited h c y l ec in
-          shows r.sited p_pos t w₁ l fu x.1.0 _ (seek_first h x.0 x.1.0 x.1.1) x.1.2 r.sited.first.unit_below x.1.3;
+          let x = lead_shown r.sited h c y l at ec in
+          shows r.sited p_pos t w₁ l at x.1.0 _ (seek_first h x.0 x.1.0 x.1.1) x.1.2 (omega (arith, x.1.3, r.sited.first.unit_below))
+          (subst (FactorStands p p_pos d i t x.1.0 w₁) (sym x.1.3) x.1.4);
     }
 
-    pub gcd_over : c ≡ Long → ⊥
-    gcd_over ec = lead_over r.sited given c y ec
+    pub gcd_stops : (x : Stop) → c ≡ Err x → GcdDone i d p e e-in ea fr fu m gr gu n w w₁ top (Err x)
+    gcd_stops (Factor l at) ec = gcd_factor l at ec
+    gcd_stops Long ec = absurd (lead_over r.sited given c y ec)
 
-    module _ (ec : c ≡ Done) where
+    module _ (ec : c ≡ Ok tt) where
       pub gcd_leads : GcdLedReady i d z p e e-in ea fr fu m gr gu n w₁ top
       gcd_leads =
           let h = lead-held r.sited given c y in
@@ -256,7 +261,7 @@ module _ {i : ℕ} {d z : List ℕ} {p : ℕ} {e : List ℤ} {e-in : Bool} {ea f
             inverted = lead_given r.sited given c y ec;
           }
 
-      pub gcd-after : {v : List ℤ} (o : Found) → GcdLedDone i d p e e-in ea fr fu m gr gu n w₁ v top o → GcdDone i d p e e-in ea fr fu m gr gu n w v top o
+      pub gcd-after : {v : List ℤ} (o : Result Greatest Stop) → GcdLedDone i d p e e-in ea fr fu m gr gu n w₁ v top o → GcdDone i d p e e-in ea fr fu m gr gu n w v top o
       gcd-after {v} o l = record {
         frame = up_trans i d fr fu gr gu top w w₁ v (lead_up r.sited given c y) l.frame;
         done = λ p_pos t a b tower left right.

@@ -15,11 +15,9 @@ use lib.IntN.{ℤ}
 use lib.ListN.{length, get_or}
 use Rattle.tower.specs.Writing.{size}
 use Rattle.arithmetic.specs.Rows.{block_inside}
-use Rattle.sequences.specs.declared.Found.TheVariants.{Greatest}
-use Rattle.sequences.specs.declared.Outcome.{Outcome}
-use Rattle.sequences.specs.declared.Outcome.TheVariants.{Done}
-use Rattle.sequences.specs.declared.Turn.{Turn}
-use Rattle.sequences.specs.declared.Turn.TheVariants.{Next}
+use Rattle.std.specs.Prelude.{Result, Ok}
+use Rattle.sequences.specs.declared.Stop.{Stop}
+use Rattle.sequences.specs.Gcds.{greatest}
 use Rattle.sequences.specs.Rows.{ScaleRowDone, DivideDone}
 use Rattle.sequences.specs.Outcomes.{InvertReady, InvertDone, FollowDone}
 use Rattle.sequences.specs.Gcds.{LeadReady, LeadDone, MonicDone, TurnDone}
@@ -29,7 +27,7 @@ pub some_of : (n : ℕ) → ¬ (n ≡ 0) → 0 < n
 some_of n h = omega (arith, h)
 
 module _ {i : ℕ} {d : List ℕ} {p : ℕ} {e : List ℤ} {e-in : Bool} {ea row unit n : ℕ} {w : List ℤ} {top : ℕ} where
-  pub lead-none : n ≡ 0 → LeadDone i d p e e-in ea row unit n w w top Done
+  pub lead-none : n ≡ 0 → LeadDone i d p e e-in ea row unit n w w top (Ok tt)
   lead-none h = record { none = λ _. (refl, refl); some = λ l. absurd (lt_irrefl 0 (omega (arith, h, l))) }
 
   module _ {z : List ℕ} (r : LeadReady i d z p e e-in ea row unit n w top) (other : ¬ (n ≡ 0)) {s : ℕ} (es : s ≡ get_or z i 0) where
@@ -50,22 +48,22 @@ module _ {i : ℕ} {d : List ℕ} {p : ℕ} {e : List ℤ} {e-in : Bool} {ea row
       pub lead-invert : InvertReady i d z p e e-in ea e true at w unit top
       lead-invert = subst (λ k. InvertReady i d z p e e-in ea e true k w unit top) (sym at-is) (r.some some)
 
-      pub lead-some : {v : List ℤ} (o : Outcome) → InvertDone i d p e e-in ea e true at w v unit top o → LeadDone i d p e e-in ea row unit n w v top o
+      pub lead-some : {v : List ℤ} (o : Result (Unit {0}) Stop) → InvertDone i d p e e-in ea e true at w v unit top o → LeadDone i d p e e-in ea row unit n w v top o
       lead-some {v} o h = record {
         none = λ l. absurd (other l);
         some = λ l. subst (λ k. InvertDone i d p e e-in ea e true k w v unit top o) at-is h;
       }
 
-  pub monic-none : n ≡ 0 → MonicDone i d p e e-in ea row unit n w w top (Greatest row 0)
-  monic-none h = record { here = ap (Greatest row) (sym h); none = λ _. refl; some = λ l. absurd (lt_irrefl 0 (omega (arith, h, l))) }
+  pub monic-none : n ≡ 0 → MonicDone i d p e e-in ea row unit n w w top (greatest row 0)
+  monic-none h = record { here = ap (greatest row) (sym h); none = λ _. refl; some = λ l. absurd (lt_irrefl 0 (omega (arith, h, l))) }
 
-  pub monic-some : ¬ (n ≡ 0) → {v : List ℤ} → ScaleRowDone i n d p e e-in ea unit w v row top → MonicDone i d p e e-in ea row unit n w v top (Greatest row n)
+  pub monic-some : ¬ (n ≡ 0) → {v : List ℤ} → ScaleRowDone i n d p e e-in ea unit w v row top → MonicDone i d p e e-in ea row unit n w v top (greatest row n)
   monic-some other h = record { here = refl; none = λ l. absurd (other l); some = λ _. h }
 
 module _ {i : ℕ} {d : List ℕ} {p : ℕ} {e : List ℤ} {e-in : Bool} {ea fr fu m gr gu n : ℕ} {w : List ℤ} {top : ℕ} where
-  pub turn-lower : m < n → TurnDone i d p e e-in ea fr fu m gr gu n w w top (Next m)
+  pub turn-lower : m < n → TurnDone i d p e e-in ea fr fu m gr gu n w w top (Ok m)
   turn-lower h = record { lower = λ _. (refl, refl); turned = λ l. absurd (lt_irrefl 0 (omega (arith, h, l))) }
 
-  pub turn-taken : n ≤ m → {v u : List ℤ} (c : Turn) → DivideDone i d p e e-in ea gr (n - 1) gu w v fr m top → FollowDone i d p e e-in ea fr (n - 1) fu v u top c
+  pub turn-taken : n ≤ m → {v u : List ℤ} (c : Result ℕ Stop) → DivideDone i d p e e-in ea gr (n - 1) gu w v fr m top → FollowDone i d p e e-in ea fr (n - 1) fu v u top c
       → TurnDone i d p e e-in ea fr fu m gr gu n w u top c
   turn-taken h {v} c x y = record { lower = λ l. absurd (lt_irrefl 0 (omega (arith, h, l))); turned = λ _. record { v = v; divided = x; followed = y } }

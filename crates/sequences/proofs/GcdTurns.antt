@@ -32,9 +32,10 @@ use Rattle.euclid.proofs.Lazy.{lazy_fuel, lazy_shown, lazy-next}
 use Rattle.euclid.specs.Shown.{shown_fits}
 use Rattle.euclid.specs.Towers.{Shown, shown_level, inv, level}
 use Rattle.euclid.proofs.Towers.{good}
-use Rattle.sequences.specs.declared.Found.TheVariants.{Divides}
-use Rattle.sequences.specs.declared.Turn.{Turn}
-use Rattle.sequences.specs.declared.Turn.TheVariants.{Next, Shows, Over}
+use Rattle.std.specs.Prelude.{Result, Ok, Err}
+use Rattle.sequences.specs.declared.Stop.{Stop}
+use Rattle.sequences.specs.declared.Stop.TheVariants.{Factor, Long}
+use Rattle.sequences.specs.declared.Greatest.{Greatest}
 use Rattle.sequences.specs.Rows.{DivideReady, DivideDone}
 use Rattle.sequences.specs.Outcomes.{FollowReady, FollowDone, Followed, Follows}
 use Rattle.sequences.specs.Gcds.{Sited, Upwards, Finds, LedStands, Sought}
@@ -166,7 +167,7 @@ module _ {i : ℕ} {d z : List ℕ} {p : ℕ} {e : List ℤ} {e-in : Bool} {ea f
       is_unit = sf.led;
     }
 
-    module _ {w₂ : List ℤ} (c : Turn) (followed : FollowDone i d p e e-in ea fr k.degree fu w₁ w₂ top c) where
+    module _ {w₂ : List ℤ} (c : Result ℕ Stop) (followed : FollowDone i d p e e-in ea fr k.degree fu w₁ w₂ top c) where
       pub turned_long : length w₂ ≡ length w
       turned_long = followed.frame.long ∙ divided.frame.long
 
@@ -205,7 +206,7 @@ module _ {i : ℕ} {d z : List ℕ} {p : ℕ} {e : List ℤ} {e-in : Bool} {ea f
       abbrev By : ℕ → Answer (Shown p d i) (El p d i) → Type 0
       By n q = Follows p p_pos d i t f.unit n q c w₂ free fu
 
-      module _ (A : Type 0) (zeros : ((n : ℕ) → coef o k.degree (rest R f k) n ≡ o) → c ≡ Next 0 → A)
+      module _ (A : Type 0) (zeros : ((n : ℕ) → coef o k.degree (rest R f k) n ≡ o) → c ≡ Ok 0 → A)
           (on : (n : ℕ) (u : Vec (El p d i) n) (y : El p d i) → Stripped o k.degree (rest R f k) (lead n u y)
           → (q : Answer (Shown p d i) (El p d i)) → inv p p_pos d i t (R.◌⊗◌ f.unit y) ≡ q → By n q → A) where
         by_shape : (y : Shape (El p d i)) → Stripped o k.degree (rest R f k) y → Followed p p_pos d i t f.unit y c w₁ w₂ free fu → A
@@ -221,10 +222,10 @@ module _ {i : ℕ} {d z : List ℕ} {p : ℕ} {e : List ℤ} {e-in : Bool} {ea f
       -- the sequence on f and k comes to the answer
       module _ {answer : Answer (Shown p d i) (Made (El p d i) (Unit {0}))}
           (comes : answer ≡ map wrap (lazy (level p p_pos d i t) (nothing (El p d i)) (suc k.degree) f k)) where
-        pub turned_next : (n : ℕ) → c ≡ Next n → Sought p p_pos d i t answer gr gu (suc k.degree) fr fu n w₂ × (n ≤ k.degree)
+        pub turned_next : (n : ℕ) → c ≡ Ok n → Sought p p_pos d i t answer gr gu (suc k.degree) fr fu n w₂ × (n ≤ k.degree)
         turned_next n ec = by_cases _ zeros on
           where
-            zeros : ((n : ℕ) → coef o k.degree (rest R f k) n ≡ o) → c ≡ Next 0
+            zeros : ((n : ℕ) → coef o k.degree (rest R f k) n ≡ o) → c ≡ Ok 0
                 → Sought p p_pos d i t answer gr gu (suc k.degree) fr fu n w₂ × (n ≤ k.degree)
             zeros st q =
                 let none : n ≡ 0 = cc in (
@@ -239,7 +240,7 @@ module _ {i : ℕ} {d z : List ℕ} {p : ℕ} {e : List ℤ} {e-in : Bool} {ea f
             on : (j : ℕ) (u : Vec (El p d i) j) (y : El p d i) → Stripped o k.degree (rest R f k) (lead j u y) → (q : Answer (Shown p d i) (El p d i))
                 → inv p p_pos d i t (R.◌⊗◌ f.unit y) ≡ q → By j q → Sought p p_pos d i t answer gr gu (suc k.degree) fr fu n w₂ × (n ≤ k.degree)
             on j u y st (done x) ex q =
-                let eq : c ≡ Next (suc j) = q.0 in
+                let eq : c ≡ Ok (suc j) = q.0 in
                 let many : n ≡ suc j = cc in (
                   record {
                     f = k;
@@ -260,29 +261,29 @@ module _ {i : ℕ} {d z : List ℕ} {p : ℕ} {e : List ℤ} {e-in : Bool} {ea f
                   },
                   omega (arith, many, st.0),
                 )
-            on j u y st (shown x) ex q = let eq : c ≡ Shows (shown_level p d i x) free = q.0 in let bad : ◌≡◌ {A = ℕ} 0 1 = cc in absurd (lt_irrefl 0 (omega arith))
-            on j u y st long ex q = let eq : c ≡ Over = q in let bad : ◌≡◌ {A = ℕ} 0 1 = cc in absurd (lt_irrefl 0 (omega arith))
+            on j u y st (shown x) ex q = let eq : c ≡ Err (Factor (shown_level p d i x) free) = q.0 in let bad : ◌≡◌ {A = ℕ} 0 1 = cc in absurd (lt_irrefl 0 (omega arith))
+            on j u y st long ex q = let eq : c ≡ Err Long = q in let bad : ◌≡◌ {A = ℕ} 0 1 = cc in absurd (lt_irrefl 0 (omega arith))
 
         -- a factor met ends everything
-        pub turned_shows : (l at : ℕ) → c ≡ Shows l at → Finds p p_pos d i t answer (Divides l at) w₂ top
+        pub turned_shows : (l at : ℕ) → c ≡ Err (Factor l at) → Finds p p_pos d i t answer (Err (Factor l at)) w₂ top
         turned_shows l at ec = by_cases _ (λ st q. let bad : ◌≡◌ {A = ℕ} 0 1 = cc in absurd (lt_irrefl 0 (omega arith))) on
           where
             on : (j : ℕ) (u : Vec (El p d i) j) (y : El p d i) → Stripped o k.degree (rest R f k) (lead j u y) → (q : Answer (Shown p d i) (El p d i))
-                → inv p p_pos d i t (R.◌⊗◌ f.unit y) ≡ q → By j q → Finds p p_pos d i t answer (Divides l at) w₂ top
-            on j u y st (done x) ex q = let eq : c ≡ Next (suc j) = q.0 in let bad : ◌≡◌ {A = ℕ} 0 1 = cc in absurd (lt_irrefl 0 (omega arith))
+                → inv p p_pos d i t (R.◌⊗◌ f.unit y) ≡ q → By j q → Finds p p_pos d i t answer (Err (Factor l at)) w₂ top
+            on j u y st (done x) ex q = let eq : c ≡ Ok (suc j) = q.0 in let bad : ◌≡◌ {A = ℕ} 0 1 = cc in absurd (lt_irrefl 0 (omega arith))
             on j u y st (shown x) ex q =
-                let eq : c ≡ Shows (shown_level p d i x) free = q.0 in
-                let same : Divides l at ≡ Divides (shown_level p d i x) free = cc in
-                subst (λ a. Finds p p_pos d i t a (Divides l at) w₂ top)
+                let eq : c ≡ Err (Factor (shown_level p d i x) free) = q.0 in
+                let same : ◌≡◌ {A = Result Greatest Stop} (Err (Factor l at)) (Err (Factor (shown_level p d i x) free)) = cc in
+                subst (λ a. Finds p p_pos d i t a (Err (Factor l at)) w₂ top)
                 (sym (comes ∙ ap (map wrap) (lazy_shown (level p p_pos d i t) (nothing (El p d i)) f k sf.led j u y st k.degree x ex)))
                 (free, same, omega (arith, free_part, s.first.row_below, shown_fits p p_pos d i (record { p_two = s.two; degrees = s.positive.some }) x), q.1)
-            on j u y st long ex q = let eq : c ≡ Over = q in let bad : ◌≡◌ {A = ℕ} 0 1 = cc in absurd (lt_irrefl 0 (omega arith))
+            on j u y st long ex q = let eq : c ≡ Err Long = q in let bad : ◌≡◌ {A = ℕ} 0 1 = cc in absurd (lt_irrefl 0 (omega arith))
 
-      pub turned_over : c ≡ Over → ⊥
+      pub turned_over : c ≡ Err Long → ⊥
       turned_over ec = by_cases ⊥ (λ st q. let bad : ◌≡◌ {A = ℕ} 0 1 = cc in lt_irrefl 0 (omega arith)) on
         where
           on : (j : ℕ) (u : Vec (El p d i) j) (y : El p d i) → Stripped o k.degree (rest R f k) (lead j u y) → (q : Answer (Shown p d i) (El p d i))
               → inv p p_pos d i t (R.◌⊗◌ f.unit y) ≡ q → By j q → ⊥
-          on j u y st (done x) ex q = let eq : c ≡ Next (suc j) = q.0 in let bad : ◌≡◌ {A = ℕ} 0 1 = cc in lt_irrefl 0 (omega arith)
-          on j u y st (shown x) ex q = let eq : c ≡ Shows (shown_level p d i x) free = q.0 in let bad : ◌≡◌ {A = ℕ} 0 1 = cc in lt_irrefl 0 (omega arith)
+          on j u y st (done x) ex q = let eq : c ≡ Ok (suc j) = q.0 in let bad : ◌≡◌ {A = ℕ} 0 1 = cc in lt_irrefl 0 (omega arith)
+          on j u y st (shown x) ex q = let eq : c ≡ Err (Factor (shown_level p d i x) free) = q.0 in let bad : ◌≡◌ {A = ℕ} 0 1 = cc in lt_irrefl 0 (omega arith)
           on j u y st long ex q = lazy_never_long (level p p_pos d i t) (nothing (El p d i)) f k sf.led j u y st (good p p_pos d i t) ex

@@ -22,9 +22,9 @@ use Rattle.products.specs.Product.{Worked}
 use Rattle.products.proofs.Frames.{worked_trans, worked-answer, worked-above}
 use Rattle.euclid.specs.Shown.{shown_fits}
 use Rattle.euclid.specs.Towers.{shown_level, inv}
-use Rattle.sequences.specs.declared.Ended.{Ended}
-use Rattle.sequences.specs.declared.Ended.TheVariants.{Inverse, Divisor, Endless}
-use Rattle.sequences.specs.declared.Outcome.TheVariants.{Done, Factor, Long}
+use Rattle.std.specs.Prelude.{Result, Ok, Err}
+use Rattle.sequences.specs.declared.Stop.{Stop}
+use Rattle.sequences.specs.declared.Stop.TheVariants.{Factor, Long}
 use Rattle.sequences.specs.Outcomes.{Above, Came, Reached, InvertReady, InvertDone, RunDone}
 use Rattle.sequences.proofs.AnswerLaws.{level-low, reached_inverse, reached_divisor, reached_endless}
 
@@ -35,7 +35,7 @@ pub record CopyReady (w : List ℤ) (c at n : ℕ) : Type 0 where
   pub apart : Apart c at n
 
 module _ {i : ℕ} {d z : List ℕ} {p : ℕ} {e : List ℤ} {e-in : Bool} {ea : ℕ} {x : List ℤ} {x_in : Bool} {a : ℕ} {w₀ : List ℤ} {c top : ℕ}
-    (r : InvertReady i d z p e e-in ea x x_in a w₀ c top) {w₁ : List ℤ} {o : Ended} (ran : RunDone i d p e e-in ea x x_in a w₀ w₁ top o) where
+    (r : InvertReady i d z p e e-in ea x x_in a w₀ c top) {w₁ : List ℤ} {o : Result ℕ Stop} (ran : RunDone i d p e e-in ea x x_in a w₀ w₁ top o) where
   -- what was reached, of the elements that the contract shows
   reached : Reached p r.run.p_pos d i r.run.t (inv p r.run.p_pos d i r.run.t r.run.v) o w₁ top
   reached = ran.done r.run.p_pos r.run.t r.run.v r.run.tower r.run.element r.run.some
@@ -65,7 +65,7 @@ module _ {i : ℕ} {d z : List ℕ} {p : ℕ} {e : List ℤ} {e-in : Bool} {ea :
       long = seg_long at n w₁ (copy_from l q).from
 
   -- ---- the inverse
-  module _ {at : ℕ} (eo : o ≡ Inverse at) where
+  module _ {at : ℕ} (eo : o ≡ Ok at) where
     inverse-above : Above d i (size d i) at top
     inverse-above =
         let k = reached_inverse p r.run.p_pos d i r.run.t w₁ top o at eo (inv p r.run.p_pos d i r.run.t r.run.v) reached in
@@ -74,17 +74,17 @@ module _ {i : ℕ} {d z : List ℕ} {p : ℕ} {e : List ℤ} {e-in : Bool} {ea :
     invert-inverse_asks : CopyReady w₁ c at (size d i)
     invert-inverse_asks = copy_from (omega arith) inverse-above
 
-    invert-inverse : {w₂ : List ℤ} → Put c (seg at (size d i) w₁) w₁ w₂ → InvertDone i d p e e-in ea x x_in a w₀ w₂ c top Done
+    invert-inverse : {w₂ : List ℤ} → Put c (seg at (size d i) w₁) w₁ w₂ → InvertDone i d p e e-in ea x x_in a w₀ w₂ c top (Ok tt)
     invert-inverse {w₂} b = record {
       frame = (copied (omega arith) inverse-above b).0;
       done = λ p_pos t v ts vs nz.
           let k = reached_inverse p p_pos d i t w₁ top o at eo (inv p p_pos d i t v) (ran.done p_pos t v ts vs nz) in
-          subst (λ y. Came p p_pos d i t y Done w₂ c) (sym k.1)
+          subst (λ y. Came p p_pos d i t y (Ok tt) w₂ c) (sym k.1)
           (refl, (copied (omega arith) inverse-above b).1 ∙ ap (λ y. seg y (size d i) w₁) k.3 ∙ k.5);
     }
 
   -- ---- a factor
-  module _ {l at : ℕ} (eo : o ≡ Divisor l at) where
+  module _ {l at : ℕ} (eo : o ≡ Err (Factor l at)) where
     -- its level, and where it stands
     divisor_above : (l ≤ i) × (size d l ≤ size d i) × Above d i (size d l) at top
     divisor_above =
@@ -100,39 +100,39 @@ module _ {i : ℕ} {d z : List ℕ} {p : ℕ} {e : List ℤ} {e-in : Bool} {ea :
     invert_divisor_asks : CopyReady w₁ c at (size d l)
     invert_divisor_asks = copy_from divisor_above.1 divisor_above.2
 
-    invert_divisor : {w₂ : List ℤ} → Put c (seg at (size d l) w₁) w₁ w₂ → InvertDone i d p e e-in ea x x_in a w₀ w₂ c top (Factor l)
+    invert_divisor : {w₂ : List ℤ} → Put c (seg at (size d l) w₁) w₁ w₂ → InvertDone i d p e e-in ea x x_in a w₀ w₂ c top (Err (Factor l c))
     invert_divisor {w₂} b = record {
       frame = (copied divisor_above.1 divisor_above.2 b).0;
       done = λ p_pos t v ts vs nz.
           let k = reached_divisor p p_pos d i t w₁ top o l at eo (inv p p_pos d i t v) (ran.done p_pos t v ts vs nz) in
           let here : seg c (size d l) w₂ ≡ seg at (size d l) w₁ = (copied divisor_above.1 divisor_above.2 b).1 in
-          subst (λ y. Came p p_pos d i t y (Factor l) w₂ c) (sym k.1) (
-            ap Factor k.2,
+          subst (λ y. Came p p_pos d i t y (Err (Factor l c)) w₂ c) (sym k.1) (
+            ap (λ y. Err (Factor y c)) k.2,
             ap (λ y. seg c (size d y) w₂) (sym k.2) ∙ here ∙ ap (λ y. seg at (size d y) w₁) k.2
                 ∙ ap (λ y. seg y (size d (shown_level p d i k.0)) w₁) k.4 ∙ k.6,
           );
     }
 
   -- ---- number 11
-  pub invert_endless : o ≡ Endless → InvertDone i d p e e-in ea x x_in a w₀ w₁ c top Long
+  pub invert_endless : o ≡ Err Long → InvertDone i d p e e-in ea x x_in a w₀ w₁ c top (Err Long)
   invert_endless eo = record {
     frame = frame₁;
     done = λ p_pos t v ts vs nz.
-        subst (λ y. Came p p_pos d i t y Long w₁ c) (sym (reached_endless p p_pos d i t w₁ top o eo (inv p p_pos d i t v) (ran.done p_pos t v ts vs nz))) refl;
+        subst (λ y. Came p p_pos d i t y (Err Long) w₁ c) (sym (reached_endless p p_pos d i t w₁ top o eo (inv p p_pos d i t v) (ran.done p_pos t v ts vs nz))) refl;
   }
 
 -- ---- in the words of the code, where the size is read
 module _ {i : ℕ} {d z : List ℕ} {p : ℕ} {e : List ℤ} {e-in : Bool} {ea : ℕ} {x : List ℤ} {x_in : Bool} {a : ℕ} {w₀ : List ℤ} {c top : ℕ}
-    (r : InvertReady i d z p e e-in ea x x_in a w₀ c top) {w₁ : List ℤ} {o : Ended} (ran : RunDone i d p e e-in ea x x_in a w₀ w₁ top o) {s : ℕ} where
-  pub copies-inverse : {at : ℕ} → o ≡ Inverse at → s ≡ get_or z i 0 → CopyReady w₁ c at s
+    (r : InvertReady i d z p e e-in ea x x_in a w₀ c top) {w₁ : List ℤ} {o : Result ℕ Stop} (ran : RunDone i d p e e-in ea x x_in a w₀ w₁ top o) {s : ℕ} where
+  pub copies-inverse : {at : ℕ} → o ≡ Ok at → s ≡ get_or z i 0 → CopyReady w₁ c at s
   copies-inverse eo es = rw (es ∙ r.run.sized.at i r.run.low) (invert-inverse_asks r ran eo)
 
-  pub gives_inverse : {at : ℕ} → o ≡ Inverse at → s ≡ get_or z i 0 → {w₂ : List ℤ} → Put c (seg at s w₁) w₁ w₂ → InvertDone i d p e e-in ea x x_in a w₀ w₂ c top Done
+  pub gives_inverse : {at : ℕ} → o ≡ Ok at → s ≡ get_or z i 0 → {w₂ : List ℤ} → Put c (seg at s w₁) w₁ w₂ → InvertDone i d p e e-in ea x x_in a w₀ w₂ c top (Ok tt)
   gives_inverse eo es b = invert-inverse r ran eo (rw (es ∙ r.run.sized.at i r.run.low) at b)
 
-  pub copies_divisor : {l at : ℕ} → o ≡ Divisor l at → s ≡ get_or z l 0 → CopyReady w₁ c at s
+  pub copies_divisor : {l at : ℕ} → o ≡ Err (Factor l at) → s ≡ get_or z l 0 → CopyReady w₁ c at s
   copies_divisor {l} eo es = rw (es ∙ r.run.sized.at l (invert-level r ran eo)) (invert_divisor_asks r ran eo)
 
-  pub gives_divisor : {l at : ℕ} → o ≡ Divisor l at → s ≡ get_or z l 0 → {w₂ : List ℤ} → Put c (seg at s w₁) w₁ w₂
-      → InvertDone i d p e e-in ea x x_in a w₀ w₂ c top (Factor l)
+  pub gives_divisor : {l at : ℕ} → o ≡ Err (Factor l at) → s ≡ get_or z l 0 → {w₂ : List ℤ} → Put c (seg at s w₁) w₁ w₂
+      → InvertDone i d p e e-in ea x x_in a w₀ w₂ c top (Err (Factor l c))
   gives_divisor {l} eo es b = invert_divisor r ran eo (rw (es ∙ r.run.sized.at l (invert-level r ran eo)) at b)

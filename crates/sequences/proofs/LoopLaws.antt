@@ -29,7 +29,8 @@ use Rattle.products.proofs.Frames.{Same, same-part, worked_kept, parts_fit}
 use Rattle.products.proofs.Towers.{topped-low}
 use Rattle.euclid.specs.Level.{Level}
 use Rattle.euclid.specs.Lazy.{Led, led, whole, rest, quot}
-use Rattle.sequences.specs.declared.Turn.{Turn}
+use Rattle.std.specs.Prelude.{Result}
+use Rattle.sequences.specs.declared.Stop.{Stop}
 use Rattle.sequences.specs.Rows.{DivideReady, DivideDone, LoseReady, LoseDone}
 use Rattle.sequences.specs.Outcomes.{RunReady, FollowReady, FollowDone, Followed}
 use Rattle.sequences.specs.Passes.{under_of, next_of, level_of, Clear, Laid, Turning, Stood}
@@ -259,7 +260,7 @@ module _ {h : ℕ} {d z : List ℕ} {p : ℕ} {e : List ℤ} {e-in : Bool} {ea :
             is_unit = t.unit_f;
           }
 
-      module _ {w₃ : List ℤ} (c : Turn) (follow : FollowDone h d p e e-in (under_of d h ea) fr k.degree fu w₂ w₃ (next_of d h top) c) where
+      module _ {w₃ : List ℤ} (c : Result ℕ Stop) (follow : FollowDone h d p e e-in (under_of d h ea) fr k.degree fu w₂ w₃ (next_of d h top) c) where
         pub turn_frame : Kept top (inverse_work d (suc h)) w₀ w₃
         turn_frame =
             kept_trans fra₂ (besides_kept (omega (arith, l.fr_low)) (omega (arith, free_part, l.fr_high)) l.fu_low l.fu_high (omega (arith, run_room r)) follow.frame)

@@ -17,11 +17,10 @@ use Rattle.algebra.specs.Test.{le_or_lt}
 use Rattle.tower.specs.Levels.{degree}
 use Rattle.tower.specs.Writing.{size, size-pos}
 use Rattle.arithmetic.specs.Rows.{block_inside}
-use Rattle.sequences.specs.declared.Ended.{Ended}
-use Rattle.sequences.specs.declared.Ended.TheVariants.{Divisor}
+use Rattle.std.specs.Prelude.{Result, Ok, Err}
+use Rattle.sequences.specs.declared.Stop.{Stop}
+use Rattle.sequences.specs.declared.Stop.TheVariants.{Factor, Long}
 use Rattle.sequences.specs.declared.Led.{Led}
-use Rattle.sequences.specs.declared.Turn.{Turn}
-use Rattle.sequences.specs.declared.Turn.TheVariants.{Next, Shows, Over}
 use Rattle.sequences.specs.Rows.{ScaleRowDone, LoseDone, DivideDone}
 use Rattle.sequences.specs.Starts.{FinishDone}
 use Rattle.sequences.specs.Outcomes.{RunDone, FollowReady, FollowDone}
@@ -87,20 +86,20 @@ module _ {h g s : ℕ} {d z : List ℕ} {p : ℕ} {e : List ℤ} {e-in : Bool} {
       pub pass_follows : FollowReady h d z p e e-in under f.row (k.count - 1) f.unit w₂ next
       pass_follows = rw (eu, en) (loop_follow l more (divided-there m.divided) (lost-there m.lost))
 
-      module _ {w₃ : List ℤ} (c : Turn) (follow : FollowDone h d p e e-in under f.row (k.count - 1) f.unit w₂ w₃ next c) where
+      module _ {w₃ : List ℤ} (c : Result ℕ Stop) (follow : FollowDone h d p e e-in under f.row (k.count - 1) f.unit w₂ w₃ next c) where
         followed : FollowDone h d p e e-in (under_of d h ea) f.row (k.count - 1) f.unit w₂ w₃ (next_of d h top) c
         followed = rw (eu, en) at follow
 
-        pub pass_fewer : (n : ℕ) → c ≡ Next n → n < k.count
+        pub pass_fewer : (n : ℕ) → c ≡ Ok n → n < k.count
         pass_fewer = loop_fewer l more (divided-there m.divided) (lost-there m.lost) c followed
 
-        pub pass_next : (n : ℕ) → c ≡ Next n → Looping h d z p e e-in ea x x_in a w₀ top k.row k.carried k.unit k.count f.row f.carried f.unit n w₃
+        pub pass_next : (n : ℕ) → c ≡ Ok n → Looping h d z p e e-in ea x x_in a w₀ top k.row k.carried k.unit k.count f.row f.carried f.unit n w₃
         pass_next = loop_next l more (divided-there m.divided) (lost-there m.lost) c followed
 
-        pub pass_shows : (i at : ℕ) → c ≡ Shows i at → RunDone (suc h) d p e e-in ea x x_in a w₀ w₃ top (Divisor i at)
+        pub pass_shows : (i at : ℕ) → c ≡ Err (Factor i at) → RunDone (suc h) d p e e-in ea x x_in a w₀ w₃ top (Err (Factor i at))
         pass_shows = loop_shows l more (divided-there m.divided) (lost-there m.lost) c followed
 
-        pub pass_over : c ≡ Over → ⊥
+        pub pass_over : c ≡ Err Long → ⊥
         pass_over = loop_over l more (divided-there m.divided) (lost-there m.lost) c followed
 
   -- ---- the end
@@ -131,10 +130,10 @@ module _ {h g s : ℕ} {d z : List ℕ} {p : ℕ} {e : List ℤ} {e-in : Bool} {
       inverse-there : {v : List ℤ} → FinishDone h g g d v w' k.carried → FinishDone h (degree d h) (degree d h) d v w' k.carried
       inverse-there y = rw eg at y
 
-      pub closes : (r : Ended) → CloseDone h g d p e e-in under f k w w' next r → RunDone (suc h) d p e e-in ea x x_in a w₀ w' top r
+      pub closes : (r : Result ℕ Stop) → CloseDone h g d p e e-in under f k w w' next r → RunDone (suc h) d p e e-in ea x x_in a w₀ w' top r
       closes r y = go (le_or_lt 1 k.count)
         where
-          Ends : Ended → Type 0
+          Ends : Result ℕ Stop → Type 0
           Ends o = RunDone (suc h) d p e e-in ea x x_in a w₀ w' top o
 
           go : (1 ≤ k.count) ⊎ (k.count < 1) → RunDone (suc h) d p e e-in ea x x_in a w₀ w' top r
@@ -154,7 +153,7 @@ module _ (h g s : ℕ) (d z : List ℕ) (p : ℕ) (e : List ℤ) (e-in : Bool) (
 
   -- left remainders are allowed yet, and whatever inverse was underway has come to f and k
   pub record Passing (f k : Led) (left : ℕ) (w : List ℤ) : Type 0 where
-    pub few : k.count ≤ left
+    pub few : k.count < left
     pub on : (u : Before)
         → Looping h d z p e e-in u.ea u.x u.x_in u.a u.w₀ u.top f.row f.carried f.unit f.count k.row k.carried k.unit k.count w
 
@@ -163,11 +162,11 @@ module _ {h g s : ℕ} {d z : List ℕ} {p : ℕ} {e : List ℤ} {e-in : Bool} {
   pub passes_fit : g + 2 ≤ length w₀
   passes_fit = slots_wide u.figures f₀ k₀ u.looping
 
-  pub passes_long : {w : List ℤ} {r : Ended} → PassesDone h g s d z p e e-in under f₀ k₀ w₀ w next r → length w ≡ length w₀
+  pub passes_long : {w : List ℤ} {r : Result ℕ Stop} → PassesDone h g s d z p e e-in under f₀ k₀ w₀ w next r → length w ≡ length w₀
   passes_long y = (y.done u).frame.long ∙ sym u.looping.frame.long
 
-  pub passing_start : Passing h g s d z p e e-in under f₀ k₀ w₀ next f₀ k₀ (g + 2) w₀
-  passing_start = record { few = omega (arith, loop_few u.looping, u.figures.degree-is); on = λ v. v.looping }
+  pub passing_start : {left : ℕ} → g + 2 ≤ left → Passing h g s d z p e e-in under f₀ k₀ w₀ next f₀ k₀ left w₀
+  passing_start el = record { few = omega (arith, loop_few u.looping, u.figures.degree-is, el); on = λ v. v.looping }
 
   module _ {f k : Led} {left : ℕ} {w : List ℤ} (l : Passing h g s d z p e e-in under f₀ k₀ w₀ next f k left w) where
     module _ (more : 1 < k.count) where
@@ -178,27 +177,25 @@ module _ {h g s : ℕ} {d z : List ℕ} {p : ℕ} {e : List ℤ} {e-in : Bool} {
         pub passing_follows : FollowReady h d z p e e-in under f.row (k.count - 1) f.unit w₂ next
         passing_follows = pass_follows u.figures f k (l.on u) more m
 
-        module _ {w₃ : List ℤ} (c : Turn) (follow : FollowDone h d p e e-in under f.row (k.count - 1) f.unit w₂ w₃ next c) where
-          pub passing_fewer : (n : ℕ) → c ≡ Next n → n < k.count
+        module _ {w₃ : List ℤ} (c : Result ℕ Stop) (follow : FollowDone h d p e e-in under f.row (k.count - 1) f.unit w₂ w₃ next c) where
+          pub passing_fewer : (n : ℕ) → c ≡ Ok n → n < k.count
           passing_fewer = pass_fewer u.figures f k (l.on u) more m c follow
 
-          pub passing_next : (n : ℕ) → c ≡ Next n
-              → Passing h g s d z p e e-in under f₀ k₀ w₀ next k (record { row = f.row; carried = f.carried; unit = f.unit; count = n }) (left - 1) w₃
-          passing_next n ec = record {
-            few = omega (arith, passing_fewer n ec, l.few);
+          pub passing_next : {left' : ℕ} → left ≤ suc left' → (n : ℕ) → c ≡ Ok n
+              → Passing h g s d z p e e-in under f₀ k₀ w₀ next k (record { row = f.row; carried = f.carried; unit = f.unit; count = n }) left' w₃
+          passing_next ed n ec = record {
+            few = omega (arith, passing_fewer n ec, l.few, ed);
             on = λ v. pass_next v.figures f k (l.on v) more m c follow n ec;
           }
 
-          pub passing_shows : (i at : ℕ) → c ≡ Shows i at → PassesDone h g s d z p e e-in under f₀ k₀ w₀ w₃ next (Divisor i at)
-          passing_shows i at ec = record { done = λ v. pass_shows v.figures f k (l.on v) more m c follow i at ec }
-
-          pub passing_over : c ≡ Over → ⊥
-          passing_over = pass_over u.figures f k (l.on u) more m c follow
+          pub passing_stops : (x : Stop) → c ≡ Err x → PassesDone h g s d z p e e-in under f₀ k₀ w₀ w₃ next (Err x)
+          passing_stops (Factor i at) ec = record { done = λ v. pass_shows v.figures f k (l.on v) more m c follow i at ec }
+          passing_stops Long ec = absurd (pass_over u.figures f k (l.on u) more m c follow ec)
 
     module _ (last : k.count ≤ 1) where
       pub passing_closes : CloseReady h g s d z p e e-in under f k w next
       passing_closes = close_asks u.figures f k (l.on u) last
 
-      pub passing_ends : {w' : List ℤ} (r : Ended) → CloseDone h g d p e e-in under f k w w' next r
+      pub passing_ends : {w' : List ℤ} (r : Result ℕ Stop) → CloseDone h g d p e e-in under f k w w' next r
           → PassesDone h g s d z p e e-in under f₀ k₀ w₀ w' next r
       passing_ends r y = record { done = λ v. closes v.figures f k (l.on v) last r y }

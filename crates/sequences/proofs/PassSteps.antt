@@ -8,7 +8,8 @@ use mathlib.Core.Bool.{Bool}
 use mathlib.Core.List.{List}
 use lib.IntN.{ℤ}
 use native.Mathlib.Omega.{arith}
-use Rattle.sequences.specs.declared.Ended.TheVariants.{Inverse, Divisor}
+use Rattle.std.specs.Prelude.{Ok, Err}
+use Rattle.sequences.specs.declared.Stop.TheVariants.{Factor}
 use Rattle.sequences.specs.declared.Led.{Led}
 use Rattle.sequences.specs.Rows.{ScaleRowDone, LoseReady, LoseDone, DivideDone}
 use Rattle.sequences.specs.Starts.{FinishDone}
@@ -30,16 +31,16 @@ module _ {h g s : ℕ} {d : List ℕ} {p : ℕ} {e : List ℤ} {e-in : Bool} {un
 
 module _ {h g : ℕ} {d : List ℕ} {p : ℕ} {e : List ℤ} {e-in : Bool} {under : ℕ} (f k : Led) {w v w' : List ℤ} {next : ℕ} where
   pub close_factor : k.count ≡ 0 → ScaleRowDone h f.count d p e e-in under f.unit w v f.row next → FinishDone h f.count g d v w' f.row
-      → CloseDone h g d p e e-in under f k w w' next (Divisor (h + 1) (f.row - 1))
+      → CloseDone h g d p e e-in under f k w w' next (Err (Factor (h + 1) (f.row - 1)))
   close_factor none scaled finished =
       let up : h + 1 ≡ suc h = omega arith in
       record {
-        factor = λ _. (ap (λ y. Divisor y (f.row - 1)) up, record { v = v; scaled = scaled; finished = finished });
+        factor = λ _. (ap (λ y. Err (Factor y (f.row - 1))) up, record { v = v; scaled = scaled; finished = finished });
         inverse = λ some. absurd (some none);
       }
 
   pub close-inverse : ¬ (k.count ≡ 0) → ScaleRowDone h g d p e e-in under k.unit w v k.carried next → FinishDone h g g d v w' k.carried
-      → CloseDone h g d p e e-in under f k w w' next (Inverse (k.carried - 1))
+      → CloseDone h g d p e e-in under f k w w' next (Ok (k.carried - 1))
   close-inverse some scaled finished = record {
     factor = λ none. absurd (some none);
     inverse = λ _. (refl, record { v = v; scaled = scaled; finished = finished });

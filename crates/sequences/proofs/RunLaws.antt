@@ -27,8 +27,9 @@ use Rattle.products.proofs.Towers.{tower-rest}
 use Rattle.euclid.specs.Answer.{shown}
 use Rattle.euclid.specs.Shown.{shown_words, shown_fits}
 use Rattle.euclid.specs.Towers.{Shown, shown_level, inv}
-use Rattle.sequences.specs.declared.Ended.{Ended}
-use Rattle.sequences.specs.declared.Ended.TheVariants.{Divisor}
+use Rattle.std.specs.Prelude.{Result, Err}
+use Rattle.sequences.specs.declared.Stop.{Stop}
+use Rattle.sequences.specs.declared.Stop.TheVariants.{Factor}
 use Rattle.sequences.specs.Rows.{Acting}
 use Rattle.sequences.specs.Outcomes.{FactorStands, RunReady, RunDone, Reached}
 use Rattle.sequences.specs.Passes.{under_of, next_of}
@@ -81,7 +82,7 @@ module _ {h : ℕ} {d z : List ℕ} {p : ℕ} {e : List ℤ} {e-in : Bool} {ea :
     }
 
   -- ---- the end: words hold one tower and one element
-  module _ {w : List ℤ} (f : Kept top (inverse_work d (suc h)) w₀ w) (o : Ended)
+  module _ {w : List ℤ} (f : Kept top (inverse_work d (suc h)) w₀ w) (o : Result ℕ Stop)
       (k : Reached p r.p_pos d (suc h) r.t (inv p r.p_pos d (suc h) r.t r.v) o w top) where
     one-tower : (t : Tower p d (suc h)) → TowerStands p r.p_pos d (suc h) t (pick e-in w₀ e) ea → r.t ≡ t
     one-tower t s =
@@ -107,7 +108,7 @@ module _ {h : ℕ} {d z : List ℕ} {p : ℕ} {e : List ℤ} {e-in : Bool} {ea :
     run_done = record { frame = f; done = λ q t v ts vs nz. subst Told (le_prop r.p_pos q) told t v ts vs }
 
   -- a factor of a level below, in one coefficient's words between top and the words above the slots
-  pub shown_above : (w : List ℤ) (o : Ended) (at : ℕ) (x : Shown p d h) → o ≡ Divisor (shown_level p d h x) at → top ≤ at → at + size d h ≤ next_of d h top
+  pub shown_above : (w : List ℤ) (o : Result ℕ Stop) (at : ℕ) (x : Shown p d h) → o ≡ Err (Factor (shown_level p d h x) at) → top ≤ at → at + size d h ≤ next_of d h top
       → FactorStands p r.p_pos d h r.t.0 x w at → Reached p r.p_pos d (suc h) r.t (shown (inl x)) o w top
   unfolding shown_words
   shown_above w o at x e l q s = (

@@ -16,16 +16,14 @@ use Rattle.tower.specs.Levels.{degree}
 use Rattle.tower.specs.Writing.{size, size-pos, tower_size_suc, count_of}
 use Rattle.arithmetic.specs.Rows.{block_inside}
 use Rattle.arithmetic.specs.Walk.{pick}
-use Rattle.sequences.specs.declared.Ended.{Ended}
-use Rattle.sequences.specs.declared.Ended.TheVariants.{Divisor}
+use Rattle.std.specs.Prelude.{Result, Ok, Err}
+use Rattle.sequences.specs.declared.Stop.{Stop}
 use Rattle.sequences.specs.declared.Led.{Led}
-use Rattle.sequences.specs.declared.Outcome.{Outcome}
-use Rattle.sequences.specs.declared.Outcome.TheVariants.{Done, Factor, Long}
 use Rattle.sequences.specs.Starts.{BeginReady, BeginDone, led_at}
 use Rattle.sequences.specs.Outcomes.{RunReady, RunDone, InvertReady, InvertDone}
 use Rattle.sequences.specs.Passes.{under_of, next_of, Looping, Underway, PassesDone}
 use Rattle.sequences.proofs.RunLaws.{run-some, run_room}
-use Rattle.sequences.proofs.BeginLaws.{Leads, leads, begin-reads, begin-ready, begin_counts, begin_asks, begin_going, begin_shows, begin_over}
+use Rattle.sequences.proofs.BeginLaws.{Leads, leads, begin-reads, begin-ready, begin_counts, begin_asks, begin_going, begin_stops}
 
 -- what the code reads of the degrees and sizes
 pub record Sizes (I : ℕ) (d z : List ℕ) (g s S : ℕ) : Type 0 where
@@ -49,7 +47,7 @@ module _ {I : ℕ} {d z : List ℕ} {p : ℕ} {e : List ℤ} {e-in : Bool} {ea :
   ready : RunReady (suc j) d z p e e-in ea x x_in a w₀ top
   ready = subst (λ i. RunReady i d z p e e-in ea x x_in a w₀ top) up high.1
 
-  told : {w : List ℤ} (o : Ended) → RunDone (suc j) d p e e-in ea x x_in a w₀ w top o → RunDone I d p e e-in ea x x_in a w₀ w top o
+  told : {w : List ℤ} (o : Result ℕ Stop) → RunDone (suc j) d p e e-in ea x x_in a w₀ w top o → RunDone I d p e e-in ea x x_in a w₀ w top o
   told {w} o q = subst (λ i. RunDone i d p e e-in ea x x_in a w₀ w top o) (sym up) q
 
   pub run-level : (0 < I) × (I ≤ 4)
@@ -108,7 +106,7 @@ module _ {I : ℕ} {d z : List ℕ} {p : ℕ} {e : List ℤ} {e-in : Bool} {ea :
           pub run_inverts : InvertReady j d z p e e-in (ea + S + s) e true at w₁ k.unit (top + 5 * ((g + 1) * s + 1))
           run_inverts = rw (under-is, unit_is, at-is, eg, one_size) (begin_asks ready at_first began)
 
-          module _ {w₂ : List ℤ} (c : Outcome) (i : InvertDone j d p e e-in (ea + S + s) e true at w₁ w₂ k.unit (top + 5 * ((g + 1) * s + 1)) c) where
+          module _ {w₂ : List ℤ} (c : Result (Unit {0}) Stop) (i : InvertDone j d p e e-in (ea + S + s) e true at w₁ w₂ k.unit (top + 5 * ((g + 1) * s + 1)) c) where
             inverted : InvertDone j d p e e-in (under_of d j ea) e true (top + ((degree d j + 1) * size d j + 1) + 1 + (n - 1) * size d j) w₁ w₂
                 (top + 4 * ((degree d j + 1) * size d j + 1) + size d j) (next_of d j top) c
             inverted = rw (under-is, unit_is, at-is, eg, one_size) at i
@@ -117,12 +115,12 @@ module _ {I : ℕ} {d z : List ℕ} {p : ℕ} {e : List ℤ} {e-in : Bool} {ea :
             abbrev From : Led → Led → Type 0
             From f k = Looping j d z p e e-in ea x x_in a w₀ top f.row f.carried f.unit f.count k.row k.carried k.unit k.count w₂
 
-            begun : c ≡ Done → From f k
+            begun : c ≡ Ok tt → From f k
             begun ec =
                 let third : top + ((g + 1) * s + 1) + 2 * ((g + 1) * s + 1) + 1 ≡ top + 3 * ((g + 1) * s + 1) + 1 = omega arith in
                 subst (λ y. From y k) (sym ef) (subst (From _) (sym ek) (rw (third, eg, one_size) (begin_going ready at_first began c inverted ec)))
 
-            abbrev underway : c ≡ Done
+            abbrev underway : c ≡ Ok tt
                 → Underway j g s d z p e e-in (ea + S + s) f k w₂ (top + 5 * ((g + 1) * s + 1))
             underway ec = record {
               ea = ea;
@@ -135,18 +133,15 @@ module _ {I : ℕ} {d z : List ℕ} {p : ℕ} {e : List ℤ} {e-in : Bool} {ea :
               looping = begun ec;
             }
 
-            pub run-underway : c ≡ Done
+            pub run-underway : c ≡ Ok tt
                 → Underway j g s d z p e e-in (ea + S + s) f k w₂ (top + 5 * ((g + 1) * s + 1))
             run-underway = underway
 
-            pub run-passes : {w : List ℤ} (o : Ended) → c ≡ Done
+            pub run-passes : {w : List ℤ} (o : Result ℕ Stop) → c ≡ Ok tt
                 → PassesDone j g s d z p e e-in (ea + S + s) f k w₂ w
                 (top + 5 * ((g + 1) * s + 1)) o
                 → RunDone I d p e e-in ea x x_in a w₀ w top o
             run-passes o ec y = told o (y.done (underway ec))
 
-            pub run_shows : (m : ℕ) → c ≡ Factor m → RunDone I d p e e-in ea x x_in a w₀ w₂ top (Divisor m k.unit)
-            run_shows m ec = rw (unit_is, eg, one_size) (told _ (begin_shows ready at_first began c inverted m ec))
-
-            pub run_over : c ≡ Long → ⊥
-            run_over = begin_over ready at_first began c inverted
+            pub run_stops : (y : Stop) → c ≡ Err y → RunDone I d p e e-in ea x x_in a w₀ w₂ top (Err y)
+            run_stops y ec = told _ (begin_stops ready at_first began c inverted y ec)

@@ -20,8 +20,7 @@ use Rattle.algebra.specs.Vec.{Vec, coef, coef_below, trunc, trunc-at}
 use Rattle.algebra.specs.Zmod.{Residue, to_z, residue_path}
 use Rattle.residue.specs.Number.{Modulus, UnitOf, FactorOf, Inverted}
 use Rattle.residue.specs.Word.{num, at}
-use Rattle.residue.specs.declared.Inverse.{Inverse}
-use Rattle.residue.specs.declared.Inverse.TheVariants.{Unit as Found, Factor as Common}
+use Rattle.residue.specs.declared.Shared.{Shared}
 use Rattle.tower.specs.Form.{seg, copies, zero_words}
 use Rattle.tower.specs.Levels.{degree, El, group, Tower}
 use Rattle.tower.specs.Lists.{copies_long}
@@ -37,9 +36,9 @@ use Rattle.products.proofs.Lowests.{residue_stands}
 use Rattle.euclid.specs.Answer.{Answer, done, shown, long}
 use Rattle.euclid.specs.Shown.{shown_words}
 use Rattle.euclid.specs.Number.{inverse₀, done₀, shown₀}
-use Rattle.sequences.specs.declared.Outcome.{Outcome}
-use Rattle.sequences.specs.declared.Outcome.TheVariants.{Done, Factor}
-use Rattle.sequences.specs.declared.Turn.TheVariants.{Next, Shows}
+use Rattle.std.specs.Prelude.{Result, Ok, Err}
+use Rattle.sequences.specs.declared.Stop.{Stop}
+use Rattle.sequences.specs.declared.Stop.TheVariants.{Factor}
 use Rattle.sequences.specs.Outcomes.{Came, InvertReady, InvertDone}
 use Rattle.sequences.proofs.NumberLaws.{held_of}
 use Rattle.sequences.specs.Starts.{BringReady, NumberReady, Came₀, NumberDone, FollowNumberReady, Follows₀, FollowNumberDone, FinishReady, FinishDone}
@@ -82,69 +81,69 @@ set-kept : {w w' : List ℤ} (c u : ℕ) → w' ≡ set w c (pos u) → Kept c 1
 set-kept {w} c u ew = subst (Kept c 1 w) (sym ew) (kept_set w c (pos u))
 
 -- ---- the inverse of a number
-module _ {p : ℕ} {x : List ℤ} {x_in : Bool} {a : ℕ} {w : List ℤ} {c : ℕ} (r : NumberReady p x x_in a w c) {n : ℕ} (en : n ≡ at (pick x_in w x) a) {i : Inverse}
-    (h : Inverted p n i) {u : ℕ} where
-  module _ (ei : i ≡ Found u) where
+module _ {p : ℕ} {x : List ℤ} {x_in : Bool} {a : ℕ} {w : List ℤ} {c : ℕ} (r : NumberReady p x x_in a w c) {n : ℕ} (en : n ≡ at (pick x_in w x) a) {i : Result ℕ Shared}
+    (h : Inverted p n i) where
+  module _ {u : ℕ} (ei : i ≡ Ok u) where
     unit : UnitOf p n u
     unit = subst (Inverted p n) ei h
 
     pub unit_put : (c < length w) × (u < 2 ^ 63)
     unit_put = (r.c_inside, unit_fits r.modulus unit)
 
-    pub unit_done : {w' : List ℤ} → w' ≡ set w c (pos u) → NumberDone p x x_in a w w' c Done
+    pub unit_done : {w' : List ℤ} → w' ≡ set w c (pos u) → NumberDone p x x_in a w w' c (Ok tt)
     unit_done {w'} ew = record {
       frame = set-kept c u ew;
       done = λ p_pos v ev some.
-          subst (λ s. Came₀ p s Done w w' c) (sym (is_done r.modulus unit r.two p_pos v (en ∙ ev) some)) (refl, ew);
+          subst (λ s. Came₀ p s (Ok tt) w w' c) (sym (is_done r.modulus unit r.two p_pos v (en ∙ ev) some)) (refl, ew);
     }
 
-  module _ (ei : i ≡ Common u) where
-    factor : FactorOf p n u
+  module _ {s : Shared} (ei : i ≡ Err s) where
+    factor : FactorOf p n s.divisor
     factor = subst (Inverted p n) ei h
 
-    pub factor_put : (c < length w) × (u < 2 ^ 63)
+    pub factor_put : (c < length w) × (s.divisor < 2 ^ 63)
     factor_put = (r.c_inside, factor_fits r.modulus factor)
 
-    pub factor_done : {w' : List ℤ} → w' ≡ set w c (pos u) → NumberDone p x x_in a w w' c (Factor 0)
+    pub factor_done : {w' : List ℤ} → w' ≡ set w c (pos s.divisor) → NumberDone p x x_in a w w' c (Err (Factor 0 c))
     factor_done {w'} ew = record {
-      frame = set-kept c u ew;
+      frame = set-kept c s.divisor ew;
       done = λ p_pos v ev some.
-          subst (λ s. Came₀ p s (Factor 0) w w' c) (sym (is_shown r.modulus factor p_pos v (en ∙ ev))) (refl, ew);
+          subst (λ q. Came₀ p q (Err (Factor 0 c)) w w' c) (sym (is_shown r.modulus factor p_pos v (en ∙ ev))) (refl, ew);
     }
 
 -- ---- the inverse of the last of a row's numbers
-module _ {p row n k unit : ℕ} {w : List ℤ} (r : FollowNumberReady p row n k unit w) {c : ℕ} (ec : c ≡ at w (row + (k - 1))) {i : Inverse}
-    (h : Inverted p c i) {u : ℕ} where
-  module _ (ei : i ≡ Found u) where
+module _ {p row n k unit : ℕ} {w : List ℤ} (r : FollowNumberReady p row n k unit w) {c : ℕ} (ec : c ≡ at w (row + (k - 1))) {i : Result ℕ Shared}
+    (h : Inverted p c i) where
+  module _ {u : ℕ} (ei : i ≡ Ok u) where
     found : UnitOf p c u
     found = subst (Inverted p c) ei h
 
     pub next-put : (unit < length w) × (u < 2 ^ 63)
     next-put = (r.unit_inside, unit_fits r.modulus found)
 
-    pub next_done : {w' : List ℤ} → w' ≡ set w unit (pos u) → FollowNumberDone p row n k unit w w' (Next k)
+    pub next_done : {w' : List ℤ} → w' ≡ set w unit (pos u) → FollowNumberDone p row n k unit w w' (Ok k)
     next_done {w'} ew = record {
       frame = inl (set-kept unit u ew);
       done = λ p_pos v ev some.
-          subst (λ s. Follows₀ p s k (row + n) unit (Next k) w w') (sym (is_done r.modulus found r.two p_pos v (ec ∙ ev) some)) (refl, ew);
+          subst (λ s. Follows₀ p s k (row + n) unit (Ok k) w w') (sym (is_done r.modulus found r.two p_pos v (ec ∙ ev) some)) (refl, ew);
     }
 
-  module _ (ei : i ≡ Common u) where
-    shared : FactorOf p c u
+  module _ {s : Shared} (ei : i ≡ Err s) where
+    shared : FactorOf p c s.divisor
     shared = subst (Inverted p c) ei h
 
-    pub shows_put : (row + n < length w) × (u < 2 ^ 63)
+    pub shows_put : (row + n < length w) × (s.divisor < 2 ^ 63)
     shows_put = (r.free_inside, factor_fits r.modulus shared)
 
-    pub shows_done : {w' : List ℤ} → w' ≡ set w (row + n) (pos u) → FollowNumberDone p row n k unit w w' (Shows 0 (row + n))
+    pub shows_done : {w' : List ℤ} → w' ≡ set w (row + n) (pos s.divisor) → FollowNumberDone p row n k unit w w' (Err (Factor 0 (row + n)))
     shows_done {w'} ew = record {
-      frame = inr (set-kept (row + n) u ew);
+      frame = inr (set-kept (row + n) s.divisor ew);
       done = λ p_pos v ev some.
-          subst (λ s. Follows₀ p s k (row + n) unit (Shows 0 (row + n)) w w') (sym (is_shown r.modulus shared p_pos v (ec ∙ ev))) (refl, ew);
+          subst (λ q. Follows₀ p q k (row + n) unit (Err (Factor 0 (row + n))) w w') (sym (is_shown r.modulus shared p_pos v (ec ∙ ev))) (refl, ew);
     }
 
 -- level 0 of the inverse
-came_up : (p : ℕ) (p_pos : 0 < p) (d : List ℕ) (t : Tower p d 0) (s : Answer ℕ (Residue p)) (r : Outcome) (w w' : List ℤ) (c : ℕ) → c < length w
+came_up : (p : ℕ) (p_pos : 0 < p) (d : List ℕ) (t : Tower p d 0) (s : Answer ℕ (Residue p)) (r : Result (Unit {0}) Stop) (w w' : List ℤ) (c : ℕ) → c < length w
     → Came₀ p s r w w' c → Came p p_pos d 0 t s r w' c
 unfolding shown_words
 came_up p p_pos d t (done u) r w w' c l h = (h.0, subst (λ y. Stands p d 0 u y c) (sym h.1) (residue_stands p d u w c u.0 l refl))
@@ -161,7 +160,7 @@ module _ {d z : List ℕ} {p : ℕ} {e : List ℤ} {e-in : Bool} {ea : ℕ} {x :
     c_inside = omega (arith, size-zero d, r.c_below, r.run.room);
   }
 
-  pub number_done : {i : ℕ} {w' : List ℤ} {o : Outcome} → i ≡ 0 → InvertReady i d z p e e-in ea x x_in a w c top → NumberDone p x x_in a w w' c o
+  pub number_done : {i : ℕ} {w' : List ℤ} {o : Result (Unit {0}) Stop} → i ≡ 0 → InvertReady i d z p e e-in ea x x_in a w c top → NumberDone p x x_in a w w' c o
       → InvertDone i d p e e-in ea x x_in a w w' c top o
   number_done {i = suc i} ei r h = absurd (lt_irrefl 0 (omega arith))
   number_done {i = zero} {w' = w'} {o = o} ei r h = record {

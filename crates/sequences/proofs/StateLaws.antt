@@ -23,9 +23,9 @@ use Rattle.euclid.specs.Answer.{Answer}
 use Rattle.euclid.specs.Towers.{Shown, inv}
 use Rattle.euclid.proofs.Towers.{good}
 use Rattle.euclid.specs.Lazy.{Led, rest}
-use Rattle.sequences.specs.declared.Ended.TheVariants.{Divisor}
-use Rattle.sequences.specs.declared.Turn.{Turn}
-use Rattle.sequences.specs.declared.Turn.TheVariants.{Next, Shows, Over}
+use Rattle.std.specs.Prelude.{Result, Ok, Err}
+use Rattle.sequences.specs.declared.Stop.{Stop}
+use Rattle.sequences.specs.declared.Stop.TheVariants.{Factor, Long}
 use Rattle.sequences.specs.Rows.{DivideReady, DivideDone, LoseReady, LoseDone}
 use Rattle.sequences.specs.Outcomes.{RunReady, RunDone, Reached, FollowReady, FollowDone, Followed, Follows}
 use Rattle.sequences.specs.Passes.{under_of, next_of, level_of, Stood, Going, Zero, Looping}
@@ -100,7 +100,7 @@ module _ {h : ℕ} {d z : List ℕ} {p : ℕ} {e : List ℤ} {e-in : Bool} {ea :
       pub loop_follow : FollowReady h d z p e e-in (under_of d h ea) fr (kn - 1) fu w₂ (next_of d h top)
       loop_follow = rw k-low (turn-follow r go.turning some s.laid s.frame go.f_stands go.k_stands divided' lose')
 
-      module _ {w₃ : List ℤ} (c : Turn) (follow : FollowDone h d p e e-in (under_of d h ea) fr (kn - 1) fu w₂ w₃ (next_of d h top) c) where
+      module _ {w₃ : List ℤ} (c : Result ℕ Stop) (follow : FollowDone h d p e e-in (under_of d h ea) fr (kn - 1) fu w₂ w₃ (next_of d h top) c) where
         follow' : FollowDone h d p e e-in (under_of d h ea) fr k.degree fu w₂ w₃ (next_of d h top) c
         follow' = rw k-low at follow
 
@@ -130,7 +130,7 @@ module _ {h : ℕ} {d z : List ℕ} {p : ℕ} {e : List ℤ} {e-in : Bool} {ea :
         kept = turn-keeps r go.turning some s.laid s.frame go.f_stands go.k_stands divided' lose' c follow'
 
         -- by cases on the remainder
-        module _ (A : Type 0) (zeros : ((n : ℕ) → coef o k.degree (rest R f k) n ≡ o) → c ≡ Next 0 → A)
+        module _ (A : Type 0) (zeros : ((n : ℕ) → coef o k.degree (rest R f k) n ≡ o) → c ≡ Ok 0 → A)
             (on : (n : ℕ) (u : Vec (El p d h) n) (y : El p d h) → Stripped o k.degree (rest R f k) (lead n u y) → By n y → A) where
           by_shape : (y : Shape (El p d h)) → Stripped o k.degree (rest R f k) y → On y → A
           by_shape null st q = zeros st q.0
@@ -142,14 +142,14 @@ module _ {h : ℕ} {d z : List ℕ} {p : ℕ} {e : List ℤ} {e-in : Bool} {ea :
               (turn_followed r go.turning some s.laid s.frame go.f_stands go.k_stands divided' lose' c follow')
 
         -- the remainder has fewer coefficients than k
-        pub loop_fewer : (n : ℕ) → c ≡ Next n → n < kn
+        pub loop_fewer : (n : ℕ) → c ≡ Ok n → n < kn
         loop_fewer n ec =
             by_cases _ (λ st q. let none : n ≡ 0 = cc in omega (arith, none, more))
             (λ j u y st q.
             let i = follows_next p r.p_pos d h r.t.0 w₃ f.unit j free fu c n ec (answer y) q in
             omega (arith, i.2, st.0, go.k_count))
 
-        pub loop_next : (n : ℕ) → c ≡ Next n → Looping h d z p e e-in ea x x_in a w₀ top kr kc ku kn fr fc fu n w₃
+        pub loop_next : (n : ℕ) → c ≡ Ok n → Looping h d z p e e-in ea x x_in a w₀ top kr kc ku kn fr fc fu n w₃
         loop_next n ec =
             by_cases _
             (λ st q.
@@ -187,18 +187,18 @@ module _ {h : ℕ} {d z : List ℕ} {p : ℕ} {e : List ℤ} {e-in : Bool} {ea :
             })
 
         -- a factor met ends everything above it
-        pub loop_shows : (m at : ℕ) → c ≡ Shows m at → RunDone (suc h) d p e e-in ea x x_in a w₀ w₃ top (Divisor m at)
+        pub loop_shows : (m at : ℕ) → c ≡ Err (Factor m at) → RunDone (suc h) d p e e-in ea x x_in a w₀ w₃ top (Err (Factor m at))
         loop_shows m at ec =
-            run_done r loop_frame (Divisor m at)
+            run_done r loop_frame (Err (Factor m at))
             (by_cases _ (λ st q. let bad : ◌≡◌ {A = ℕ} 0 1 = cc in absurd (lt_irrefl 0 (omega arith)))
             (λ j u y st q.
             let i = follows_shows p r.p_pos d h r.t.0 w₃ f.unit j free fu c m at ec (answer y) q in
             let inside = block_inside k.degree (degree d h + 1) (size d h) (omega (arith, go.turning.falls, go.turning.most)) in
-            subst (λ y. Reached p r.p_pos d (suc h) r.t y (Divisor m at) w₃ top)
+            subst (λ y. Reached p r.p_pos d (suc h) r.t y (Err (Factor m at)) w₃ top)
             (sym (turn_shown (level_of r) (degree d h) r.t.1 r.v go.turning j u y st (good p r.p_pos d h r.t.0) i.0 i.1))
-            (shown_above r w₃ (Divisor m at) free i.0 (ap₂ Divisor i.2 i.3) (omega (arith, s.laid.fr_low)) (omega (arith, s.laid.fr_high, inside)) i.4)))
+            (shown_above r w₃ (Err (Factor m at)) free i.0 (ap₂ (λ x y. Err (Factor x y)) i.2 i.3) (omega (arith, s.laid.fr_low)) (omega (arith, s.laid.fr_high, inside)) i.4)))
 
-        pub loop_over : c ≡ Over → ⊥
+        pub loop_over : c ≡ Err Long → ⊥
         loop_over ec =
             by_cases ⊥ (λ st q. let bad : ◌≡◌ {A = ℕ} 0 1 = cc in lt_irrefl 0 (omega arith))
             (λ j u y st q.

@@ -3,7 +3,7 @@
 -- Placed            == a polynomial in the store: its coefficients, and a place for the inverse of its leading one
 -- Sited             == two such polynomials, apart, with a modulus, sizes, and room above top for an inverse
 -- Upwards           == only words from the lowest of their places up to the end of that room have changed
--- Finds             == what the answer comes to
+-- greatest, Finds   == a place and a count; what the answer comes to
 -- GcdReady, GcdDone == the GCD of two polynomials
 -- Inverted, GcdLedReady, GcdLedDone == the same where the inverse of the first one's leading coefficient stands
 -- LeadReady, LeadDone  == the inverse of a leading coefficient, where there is one
@@ -11,7 +11,7 @@
 -- LedStands == a polynomial of the sequence stands, with the inverse of its leading coefficient
 -- Sought    == what the sequence on two polynomials, the second of which may be zero, comes to
 -- TurnsReady, TurnsDone == the sequence
-use Rattle.std.specs.Prelude.{ℕ, suc, ◌+◌, ◌-◌, ◌*◌, ◌^◌, ◌<◌, ◌≤◌, ◌≡◌, Bool, true, ◌⊎◌, List, ℤ, length}
+use Rattle.std.specs.Prelude.{ℕ, suc, ◌+◌, ◌-◌, ◌*◌, ◌^◌, ◌<◌, ◌≤◌, ◌≡◌, Bool, true, ◌⊎◌, List, ℤ, length, Result, Ok, Err}
 use Rattle.algebra.specs.UnitDivide.{scaleᵛ}
 use Rattle.algebra.specs.Vec.{coef, trunc}
 use Rattle.residue.specs.Number.{Modulus}
@@ -27,12 +27,9 @@ use Rattle.euclid.specs.Answer.{Answer, done, shown, long, map}
 use Rattle.euclid.specs.Gcd.{Made, made, made_count, made_coefficients, gcd, nothing, wrap}
 use Rattle.euclid.specs.Lazy.{Led, whole, UnitLed, lazy}
 use Rattle.euclid.specs.Towers.{Shown, shown_level, inv, level}
-use Rattle.sequences.specs.declared.Found.{Found}
-use Rattle.sequences.specs.declared.Found.TheVariants.{Greatest, Divides, Never}
-use Rattle.sequences.specs.declared.Outcome.{Outcome}
-use Rattle.sequences.specs.declared.Outcome.TheVariants.{Done}
-use Rattle.sequences.specs.declared.Turn.{Turn}
-use Rattle.sequences.specs.declared.Turn.TheVariants.{Next}
+use Rattle.sequences.specs.declared.Stop.{Stop}
+use Rattle.sequences.specs.declared.Stop.TheVariants.{Factor, Long}
+use Rattle.sequences.specs.declared.Greatest.{Greatest}
 use Rattle.sequences.specs.Outcomes.{FactorStands, InvertReady, InvertDone, FollowReady, FollowDone}
 use Rattle.sequences.specs.Rows.{Between, ScaleRowReady, ScaleRowDone, DivideReady, DivideDone}
 
@@ -68,13 +65,16 @@ abbrev pub Upwards : ℕ → List ℕ → (f-row f-unit g-row g-unit : ℕ) → 
 Upwards i d f-row f-unit g-row g-unit w w' top =
     (base : ℕ) → base ≤ f-row → base ≤ f-unit → base ≤ g-row → base ≤ g-unit → base ≤ top → Kept base (top + inverse_work d i - base) w w'
 
+abbrev pub greatest : (at count : ℕ) → Greatest
+greatest at count = record { at = at; count = count }
+
 -- the answer's coefficients stand at a place below top; or the words of a factor do
-abbrev pub Finds : (p : ℕ) (p_pos : 0 < p) (d : List ℕ) (i : ℕ) (t : Tower p d i) → Answer (Shown p d i) (Made (El p d i) (Unit {0})) → Found → List ℤ → ℕ → Type 0
+abbrev pub Finds : (p : ℕ) (p_pos : 0 < p) (d : List ℕ) (i : ℕ) (t : Tower p d i) → Answer (Shown p d i) (Made (El p d i) (Unit {0})) → Result Greatest Stop → List ℤ → ℕ → Type 0
 Finds p p_pos d i t (done m) r w top =
-    (at : ℕ) × (r ≡ Greatest at (made_count m)) × (at + made_count m * size d i ≤ top) × Elements p d i (made_count m) (made_coefficients (ring p p_pos d i t) m) w at
+    (at : ℕ) × (r ≡ Ok (greatest at (made_count m))) × (at + made_count m * size d i ≤ top) × Elements p d i (made_count m) (made_coefficients (ring p p_pos d i t) m) w at
 Finds p p_pos d i t (shown f) r w top =
-    (at : ℕ) × (r ≡ Divides (shown_level p d i f) at) × (at + size d (shown_level p d i f) ≤ top) × FactorStands p p_pos d i t f w at
-Finds p p_pos d i t long r w top = r ≡ Never
+    (at : ℕ) × (r ≡ Err (Factor (shown_level p d i f) at)) × (at + size d (shown_level p d i f) ≤ top) × FactorStands p p_pos d i t f w at
+Finds p p_pos d i t long r w top = r ≡ Err Long
 
 -- ---- the GCD
 -- the coefficients a of a polynomial, its highest not zero
@@ -92,7 +92,7 @@ pub record GcdReady (i : ℕ) (d z : List ℕ) (p : ℕ) (e : List ℤ) (e-in : 
   pub left : Polynomial p p_pos d i m a w f-row
   pub right : Polynomial p p_pos d i n b w g-row
 
-pub record GcdDone (i : ℕ) (d : List ℕ) (p : ℕ) (e : List ℤ) (e-in : Bool) (ea f-row f-unit m g-row g-unit n : ℕ) (w w' : List ℤ) (top : ℕ) (r : Found) : Type 0 where
+pub record GcdDone (i : ℕ) (d : List ℕ) (p : ℕ) (e : List ℤ) (e-in : Bool) (ea f-row f-unit m g-row g-unit n : ℕ) (w w' : List ℤ) (top : ℕ) (r : Result Greatest Stop) : Type 0 where
   pub frame : Upwards i d f-row f-unit g-row g-unit w w' top
   pub done : (p_pos : 0 < p) (t : Tower p d i) (a b : ℕ → El p d i) → TowerStands p p_pos d i t (pick e-in w e) ea
       → Polynomial p p_pos d i m a w f-row → Polynomial p p_pos d i n b w g-row
@@ -107,7 +107,7 @@ pub record GcdLedReady (i : ℕ) (d z : List ℕ) (p : ℕ) (e : List ℤ) (e-in
   pub ready : GcdReady i d z p e e-in ea f-row f-unit m g-row g-unit n w top
   pub inverted : Inverted p ready.p_pos d i ready.t m ready.a w f-unit
 
-pub record GcdLedDone (i : ℕ) (d : List ℕ) (p : ℕ) (e : List ℤ) (e-in : Bool) (ea f-row f-unit m g-row g-unit n : ℕ) (w w' : List ℤ) (top : ℕ) (r : Found) : Type 0 where
+pub record GcdLedDone (i : ℕ) (d : List ℕ) (p : ℕ) (e : List ℤ) (e-in : Bool) (ea f-row f-unit m g-row g-unit n : ℕ) (w w' : List ℤ) (top : ℕ) (r : Result Greatest Stop) : Type 0 where
   pub frame : Upwards i d f-row f-unit g-row g-unit w w' top
   pub done : (p_pos : 0 < p) (t : Tower p d i) (a b : ℕ → El p d i) → TowerStands p p_pos d i t (pick e-in w e) ea
       → Polynomial p p_pos d i m a w f-row → Polynomial p p_pos d i n b w g-row → Inverted p p_pos d i t m a w f-unit
@@ -121,16 +121,16 @@ pub record LeadReady (i : ℕ) (d z : List ℕ) (p : ℕ) (e : List ℤ) (e-in :
   pub row_below : row + n * size d i ≤ length w
   pub some : 0 < n → InvertReady i d z p e e-in ea e true (row + (n - 1) * size d i) w unit top
 
-pub record LeadDone (i : ℕ) (d : List ℕ) (p : ℕ) (e : List ℤ) (e-in : Bool) (ea row unit n : ℕ) (w w' : List ℤ) (top : ℕ) (r : Outcome) : Type 0 where
-  pub none : n ≡ 0 → (r ≡ Done) × (w' ≡ w)
+pub record LeadDone (i : ℕ) (d : List ℕ) (p : ℕ) (e : List ℤ) (e-in : Bool) (ea row unit n : ℕ) (w w' : List ℤ) (top : ℕ) (r : Result (Unit {0}) Stop) : Type 0 where
+  pub none : n ≡ 0 → (r ≡ Ok tt) × (w' ≡ w)
   pub some : 0 < n → InvertDone i d p e e-in ea e true (row + (n - 1) * size d i) w w' unit top r
 
 -- each of n coefficients is multiplied by the inverse at unit
 pub record MonicReady (i : ℕ) (d z : List ℕ) (p : ℕ) (e : List ℤ) (e-in : Bool) (ea row unit n : ℕ) (w : List ℤ) (top : ℕ) : Type 0 where
   pub some : 0 < n → ScaleRowReady i n d z p e e-in ea unit w row top
 
-pub record MonicDone (i : ℕ) (d : List ℕ) (p : ℕ) (e : List ℤ) (e-in : Bool) (ea row unit n : ℕ) (w w' : List ℤ) (top : ℕ) (r : Found) : Type 0 where
-  pub here : r ≡ Greatest row n
+pub record MonicDone (i : ℕ) (d : List ℕ) (p : ℕ) (e : List ℤ) (e-in : Bool) (ea row unit n : ℕ) (w w' : List ℤ) (top : ℕ) (r : Greatest) : Type 0 where
+  pub here : r ≡ greatest row n
   pub none : n ≡ 0 → w' ≡ w
   pub some : 0 < n → ScaleRowDone i n d p e e-in ea unit w w' row top
 
@@ -140,13 +140,13 @@ pub record TurnReady (i : ℕ) (d z : List ℕ) (p : ℕ) (e : List ℤ) (e-in :
   pub follow : n ≤ m → (w' : List ℤ) → DivideDone i d p e e-in ea g-row (n - 1) g-unit w w' f-row m top → FollowReady i d z p e e-in ea f-row (n - 1) f-unit w' top
 
 -- v is the store between the two
-pub record TurnedBy (i : ℕ) (d : List ℕ) (p : ℕ) (e : List ℤ) (e-in : Bool) (ea f-row f-unit m g-row g-unit n : ℕ) (w w' : List ℤ) (top : ℕ) (r : Turn) : Type 0 where
+pub record TurnedBy (i : ℕ) (d : List ℕ) (p : ℕ) (e : List ℤ) (e-in : Bool) (ea f-row f-unit m g-row g-unit n : ℕ) (w w' : List ℤ) (top : ℕ) (r : Result ℕ Stop) : Type 0 where
   pub v : List ℤ
   pub divided : DivideDone i d p e e-in ea g-row (n - 1) g-unit w v f-row m top
   pub followed : FollowDone i d p e e-in ea f-row (n - 1) f-unit v w' top r
 
-pub record TurnDone (i : ℕ) (d : List ℕ) (p : ℕ) (e : List ℤ) (e-in : Bool) (ea f-row f-unit m g-row g-unit n : ℕ) (w w' : List ℤ) (top : ℕ) (r : Turn) : Type 0 where
-  pub lower : m < n → (r ≡ Next m) × (w' ≡ w)
+pub record TurnDone (i : ℕ) (d : List ℕ) (p : ℕ) (e : List ℤ) (e-in : Bool) (ea f-row f-unit m g-row g-unit n : ℕ) (w w' : List ℤ) (top : ℕ) (r : Result ℕ Stop) : Type 0 where
+  pub lower : m < n → (r ≡ Ok m) × (w' ≡ w)
   pub turned : n ≤ m → TurnedBy i d p e e-in ea f-row f-unit m g-row g-unit n w w' top r
 
 -- ---- the sequence
@@ -184,7 +184,7 @@ pub record TurnsReady (i : ℕ) (d z : List ℕ) (p : ℕ) (e : List ℤ) (e-in 
   pub tower : TowerStands p p_pos d i t (pick e-in w e) ea
   pub sought : Sought p p_pos d i t answer f-row f-unit m g-row g-unit n w
 
-pub record TurnsDone (i : ℕ) (d : List ℕ) (p : ℕ) (e : List ℤ) (e-in : Bool) (ea f-row f-unit m g-row g-unit n : ℕ) (w w' : List ℤ) (top : ℕ) (r : Found) : Type 0 where
+pub record TurnsDone (i : ℕ) (d : List ℕ) (p : ℕ) (e : List ℤ) (e-in : Bool) (ea f-row f-unit m g-row g-unit n : ℕ) (w w' : List ℤ) (top : ℕ) (r : Result Greatest Stop) : Type 0 where
   pub frame : Upwards i d f-row f-unit g-row g-unit w w' top
   pub done : (p_pos : 0 < p) (t : Tower p d i) (answer : Answer (Shown p d i) (Made (El p d i) (Unit {0}))) → TowerStands p p_pos d i t (pick e-in w e) ea
       → Sought p p_pos d i t answer f-row f-unit m g-row g-unit n w → Finds p p_pos d i t answer r w' top

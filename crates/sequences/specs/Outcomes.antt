@@ -1,13 +1,13 @@
 -- What the inverse in the store asks for and leaves.
 --
--- Came                    == what an outcome and the words at c say of the sequence's answer
+-- Came                    == what the result and the words at c say of the sequence's answer
 -- InvertReady, InvertDone == the inverse of an element, its answer at c
 -- Reached                 == the same where the place of the answer is told
 -- RunReady, RunDone       == the inverse at a level above 0, its answer in the words above top
 -- Away, Besides           == a place outside a run of words; what a turn's end may change
 -- Followed                == what the end of a turn comes to
 -- FollowReady, FollowDone == the end of a turn: the remainder's leading coefficient is inverted
-use Rattle.std.specs.Prelude.{ℕ, suc, ◌+◌, ◌*◌, ◌^◌, ◌<◌, ◌≤◌, ◌≡◌, Bool, ◌⊎◌, List, ℤ, pos, length, get_or}
+use Rattle.std.specs.Prelude.{ℕ, suc, ◌+◌, ◌*◌, ◌^◌, ◌<◌, ◌≤◌, ◌≡◌, Bool, ◌⊎◌, List, ℤ, pos, length, get_or, Result, Ok, Err}
 use Rattle.algebra.specs.Shape.{Shape, null, lead, strip}
 use Rattle.algebra.specs.Vec.{trunc}
 use Rattle.residue.specs.Number.{Modulus}
@@ -23,12 +23,8 @@ use Rattle.products.specs.Product.{Worked, TowerStands, Elements, Inside, Outsid
 use Rattle.euclid.specs.Answer.{Answer, done, shown, long}
 use Rattle.euclid.specs.Shown.{shown_words}
 use Rattle.euclid.specs.Towers.{Shown, shown_level, inv}
-use Rattle.sequences.specs.declared.Outcome.{Outcome}
-use Rattle.sequences.specs.declared.Outcome.TheVariants.{Done, Factor, Long}
-use Rattle.sequences.specs.declared.Ended.{Ended}
-use Rattle.sequences.specs.declared.Ended.TheVariants.{Inverse, Divisor, Endless}
-use Rattle.sequences.specs.declared.Turn.{Turn}
-use Rattle.sequences.specs.declared.Turn.TheVariants.{Next, Shows, Over}
+use Rattle.sequences.specs.declared.Stop.{Stop}
+use Rattle.sequences.specs.declared.Stop.TheVariants.{Factor, Long}
 use Rattle.sequences.specs.Rows.{Between}
 
 -- the words of a shown factor stand at a
@@ -36,10 +32,10 @@ abbrev pub FactorStands : (p : ℕ) (p_pos : 0 < p) (d : List ℕ) (i : ℕ) →
 FactorStands p p_pos d i t f w a = seg a (size d (shown_level p d i f)) w ≡ shown_words p p_pos d i t f
 
 -- ---- the inverse, its answer at c
-abbrev pub Came : (p : ℕ) (p_pos : 0 < p) (d : List ℕ) (i : ℕ) → Tower p d i → Answer (Shown p d i) (El p d i) → Outcome → List ℤ → ℕ → Type 0
-Came p p_pos d i t (done u) r w c = (r ≡ Done) × Stands p d i u w c
-Came p p_pos d i t (shown f) r w c = (r ≡ Factor (shown_level p d i f)) × FactorStands p p_pos d i t f w c
-Came p p_pos d i t long r w c = r ≡ Long
+abbrev pub Came : (p : ℕ) (p_pos : 0 < p) (d : List ℕ) (i : ℕ) → Tower p d i → Answer (Shown p d i) (El p d i) → Result (Unit {0}) Stop → List ℤ → ℕ → Type 0
+Came p p_pos d i t (done u) r w c = (r ≡ Ok tt) × Stands p d i u w c
+Came p p_pos d i t (shown f) r w c = (r ≡ Err (Factor (shown_level p d i f) c)) × FactorStands p p_pos d i t f w c
+Came p p_pos d i t long r w c = r ≡ Err Long
 
 -- a modulus, sizes, the tower, an element that is not zero, and room for the inverse above top
 pub record RunReady (i : ℕ) (d z : List ℕ) (p : ℕ) (e : List ℤ) (e-in : Bool) (ea : ℕ) (x : List ℤ) (x_in : Bool) (a : ℕ) (w : List ℤ) (top : ℕ) : Type 0 where
@@ -63,7 +59,7 @@ pub record InvertReady (i : ℕ) (d z : List ℕ) (p : ℕ) (e : List ℤ) (e-in
   pub run : RunReady i d z p e e-in ea x x_in a w top
   pub c_below : c + size d i ≤ top
 
-pub record InvertDone (i : ℕ) (d : List ℕ) (p : ℕ) (e : List ℤ) (e-in : Bool) (ea : ℕ) (x : List ℤ) (x_in : Bool) (a : ℕ) (w w' : List ℤ) (c top : ℕ) (r : Outcome) : Type 0 where
+pub record InvertDone (i : ℕ) (d : List ℕ) (p : ℕ) (e : List ℤ) (e-in : Bool) (ea : ℕ) (x : List ℤ) (x_in : Bool) (a : ℕ) (w w' : List ℤ) (c top : ℕ) (r : Result (Unit {0}) Stop) : Type 0 where
   pub frame : Worked c (size d i) top (inverse_work d i) w w'
   pub done : (p_pos : 0 < p) (t : Tower p d i) (v : El p d i) → TowerStands p p_pos d i t (pick e-in w e) ea → Stands p d i v (pick x_in w x) a
       → ¬ (v ≡ (group p p_pos d i).𝟘) → Came p p_pos d i t (inv p p_pos d i t v) r w' c
@@ -73,13 +69,13 @@ pub record Above (d : List ℕ) (i n at top : ℕ) : Type 0 where
   pub low : top ≤ at
   pub high : at + n ≤ top + inverse_work d i
 
-abbrev pub Reached : (p : ℕ) (p_pos : 0 < p) (d : List ℕ) (i : ℕ) → Tower p d i → Answer (Shown p d i) (El p d i) → Ended → List ℤ → ℕ → Type 0
-Reached p p_pos d i t (done u) r w top = (at : ℕ) × (r ≡ Inverse at) × Above d i (size d i) at top × Stands p d i u w at
+abbrev pub Reached : (p : ℕ) (p_pos : 0 < p) (d : List ℕ) (i : ℕ) → Tower p d i → Answer (Shown p d i) (El p d i) → Result ℕ Stop → List ℤ → ℕ → Type 0
+Reached p p_pos d i t (done u) r w top = (at : ℕ) × (r ≡ Ok at) × Above d i (size d i) at top × Stands p d i u w at
 Reached p p_pos d i t (shown f) r w top =
-    (at : ℕ) × (r ≡ Divisor (shown_level p d i f) at) × Above d i (size d (shown_level p d i f)) at top × FactorStands p p_pos d i t f w at
-Reached p p_pos d i t long r w top = r ≡ Endless
+    (at : ℕ) × (r ≡ Err (Factor (shown_level p d i f) at)) × Above d i (size d (shown_level p d i f)) at top × FactorStands p p_pos d i t f w at
+Reached p p_pos d i t long r w top = r ≡ Err Long
 
-pub record RunDone (i : ℕ) (d : List ℕ) (p : ℕ) (e : List ℤ) (e-in : Bool) (ea : ℕ) (x : List ℤ) (x_in : Bool) (a : ℕ) (w w' : List ℤ) (top : ℕ) (r : Ended) : Type 0 where
+pub record RunDone (i : ℕ) (d : List ℕ) (p : ℕ) (e : List ℤ) (e-in : Bool) (ea : ℕ) (x : List ℤ) (x_in : Bool) (a : ℕ) (w w' : List ℤ) (top : ℕ) (r : Result ℕ Stop) : Type 0 where
   pub frame : Kept top (inverse_work d i) w w'
   pub done : (p_pos : 0 < p) (t : Tower p d i) (v : El p d i) → TowerStands p p_pos d i t (pick e-in w e) ea → Stands p d i v (pick x_in w x) a
       → ¬ (v ≡ (group p p_pos d i).𝟘) → Reached p p_pos d i t (inv p p_pos d i t v) r w' top
@@ -120,17 +116,17 @@ pub record Besides (a b n top m : ℕ) (w w' : List ℤ) : Type 0 where
   pub others : (k : ℕ) → Away k a n → Away k b n → Away k top m → get_or w' k (pos 0) ≡ get_or w k (pos 0)
 
 -- the inverse of u times the leading coefficient c, of degree g: it replaces u's words as its product with u; or it shows a factor, at free
-abbrev pub Follows : (p : ℕ) (p_pos : 0 < p) (d : List ℕ) (i : ℕ) → Tower p d i → El p d i → ℕ → Answer (Shown p d i) (El p d i) → Turn → List ℤ → ℕ → ℕ → Type 0
-Follows p p_pos d i t u g (done j) r w free unit = (r ≡ Next (suc g)) × Stands p d i ((ring p p_pos d i t).◌⊗◌ j u) w unit
-Follows p p_pos d i t u g (shown f) r w free unit = (r ≡ Shows (shown_level p d i f) free) × FactorStands p p_pos d i t f w free
-Follows p p_pos d i t u g long r w free unit = r ≡ Over
+abbrev pub Follows : (p : ℕ) (p_pos : 0 < p) (d : List ℕ) (i : ℕ) → Tower p d i → El p d i → ℕ → Answer (Shown p d i) (El p d i) → Result ℕ Stop → List ℤ → ℕ → ℕ → Type 0
+Follows p p_pos d i t u g (done j) r w free unit = (r ≡ Ok (suc g)) × Stands p d i ((ring p p_pos d i t).◌⊗◌ j u) w unit
+Follows p p_pos d i t u g (shown f) r w free unit = (r ≡ Err (Factor (shown_level p d i f) free)) × FactorStands p p_pos d i t f w free
+Follows p p_pos d i t u g long r w free unit = r ≡ Err Long
 
 -- the remainder is zero, and nothing has changed; or it has a leading coefficient
-abbrev pub Followed : (p : ℕ) (p_pos : 0 < p) (d : List ℕ) (i : ℕ) → Tower p d i → El p d i → Shape (El p d i) → Turn → List ℤ → List ℤ → ℕ → ℕ → Type 0
-Followed p p_pos d i t u null r w w' free unit = (r ≡ Next 0) × (w' ≡ w)
+abbrev pub Followed : (p : ℕ) (p_pos : 0 < p) (d : List ℕ) (i : ℕ) → Tower p d i → El p d i → Shape (El p d i) → Result ℕ Stop → List ℤ → List ℤ → ℕ → ℕ → Type 0
+Followed p p_pos d i t u null r w w' free unit = (r ≡ Ok 0) × (w' ≡ w)
 Followed p p_pos d i t u (lead g l c) r w w' free unit = Follows p p_pos d i t u g (inv p p_pos d i t ((ring p p_pos d i t).◌⊗◌ u c)) r w' free unit
 
-pub record FollowDone (i : ℕ) (d : List ℕ) (p : ℕ) (e : List ℤ) (e-in : Bool) (ea row n unit : ℕ) (w w' : List ℤ) (top : ℕ) (r : Turn) : Type 0 where
+pub record FollowDone (i : ℕ) (d : List ℕ) (p : ℕ) (e : List ℤ) (e-in : Bool) (ea row n unit : ℕ) (w w' : List ℤ) (top : ℕ) (r : Result ℕ Stop) : Type 0 where
   pub frame : Besides (row + n * size d i) unit (size d i) top (inverse_work d i) w w'
   pub done : (p_pos : 0 < p) (t : Tower p d i) (f : ℕ → El p d i) (u back : El p d i) → TowerStands p p_pos d i t (pick e-in w e) ea
       → Elements p d i n f w row → Stands p d i u w unit → (ring p p_pos d i t).◌⊗◌ u back ≡ (ring p p_pos d i t).𝟙

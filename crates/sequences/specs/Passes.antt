@@ -10,7 +10,7 @@
 -- Figures           == the numbers of a run that are handed on;  Underway, PassesDone == the sequence from there on
 -- RemainderReady, RemainderDone == one remainder, and what it carries
 -- Settling, Settled, CloseReady, CloseDone == a row scaled and made an element; the end of the sequence
-use Rattle.std.specs.Prelude.{ℕ, suc, ◌+◌, ◌-◌, ◌*◌, ◌<◌, ◌≤◌, ◌≡◌, Bool, ◌⊎◌, List, ℤ, length}
+use Rattle.std.specs.Prelude.{ℕ, suc, ◌+◌, ◌-◌, ◌*◌, ◌<◌, ◌≤◌, ◌≡◌, Bool, ◌⊎◌, List, ℤ, length, Result, Ok, Err}
 use Rattle.std.proofs.Common.{inr}
 use Rattle.algebra.specs.Vec.{Vec, Below, coef}
 use Rattle.algebra.specs.UnitDivide.{scaleᵛ}
@@ -25,8 +25,8 @@ use Rattle.euclid.specs.Inverse.{elements, finish, inverse}
 use Rattle.euclid.specs.Lazy.{Led, whole, UnitLed, lazy}
 use Rattle.euclid.specs.Level.{Level, Mon, beneath}
 use Rattle.euclid.specs.Towers.{inv, level}
-use Rattle.sequences.specs.declared.Ended.{Ended}
-use Rattle.sequences.specs.declared.Ended.TheVariants.{Inverse, Divisor}
+use Rattle.sequences.specs.declared.Stop.{Stop}
+use Rattle.sequences.specs.declared.Stop.TheVariants.{Factor}
 use Rattle.sequences.specs.declared.Led.{Led as Place}
 use Rattle.sequences.specs.Rows.{Between, ScaleRowReady, ScaleRowDone, LoseReady, LoseDone, DivideReady, DivideDone}
 use Rattle.sequences.specs.Starts.{FinishReady, FinishDone}
@@ -150,7 +150,7 @@ pub record Underway (h g s : ℕ) (d z : List ℕ) (p : ℕ) (e : List ℤ) (e-i
   pub looping : Looping h d z p e e-in ea x x_in a w₀ top f.row f.carried f.unit f.count k.row k.carried k.unit k.count w
 
 -- whatever it was, it is done
-pub record PassesDone (h g s : ℕ) (d z : List ℕ) (p : ℕ) (e : List ℤ) (e-in : Bool) (under : ℕ) (f k : Place) (w w' : List ℤ) (next : ℕ) (r : Ended) : Type 0 where
+pub record PassesDone (h g s : ℕ) (d z : List ℕ) (p : ℕ) (e : List ℤ) (e-in : Bool) (under : ℕ) (f k : Place) (w w' : List ℤ) (next : ℕ) (r : Result ℕ Stop) : Type 0 where
   pub done : (u : Underway h g s d z p e e-in under f k w next) → RunDone (suc h) d p e e-in u.ea u.x u.x_in u.a u.w₀ w' u.top r
 
 -- ---- the steps, as they ask for what they call
@@ -190,6 +190,6 @@ pub record CloseReady (h g s : ℕ) (d z : List ℕ) (p : ℕ) (e : List ℤ) (e
   pub inverse : ¬ (k.count ≡ 0) → Settling h g g s d z p e e-in under k.unit w k.carried next
 
 -- the answer is told by its first word's place
-pub record CloseDone (h g : ℕ) (d : List ℕ) (p : ℕ) (e : List ℤ) (e-in : Bool) (under : ℕ) (f k : Place) (w w' : List ℤ) (next : ℕ) (r : Ended) : Type 0 where
-  pub factor : k.count ≡ 0 → (r ≡ Divisor (suc h) (f.row - 1)) × Settled h f.count g d p e e-in under f.unit w w' f.row next
-  pub inverse : ¬ (k.count ≡ 0) → (r ≡ Inverse (k.carried - 1)) × Settled h g g d p e e-in under k.unit w w' k.carried next
+pub record CloseDone (h g : ℕ) (d : List ℕ) (p : ℕ) (e : List ℤ) (e-in : Bool) (under : ℕ) (f k : Place) (w w' : List ℤ) (next : ℕ) (r : Result ℕ Stop) : Type 0 where
+  pub factor : k.count ≡ 0 → (r ≡ Err (Factor (suc h) (f.row - 1))) × Settled h f.count g d p e e-in under f.unit w w' f.row next
+  pub inverse : ¬ (k.count ≡ 0) → (r ≡ Ok (k.carried - 1)) × Settled h g g d p e e-in under k.unit w w' k.carried next

@@ -7,7 +7,7 @@
 -- BeginReady, Begun, BeginDone   == the two polynomials, what they carry, and the first one's inverse
 -- led_at                 == a polynomial in its slots
 -- FinishReady, FinishDone        == n elements, then zeros, then the degree word in front of them
-use Rattle.std.specs.Prelude.{ℕ, suc, ◌+◌, ◌-◌, ◌*◌, ◌<◌, ◌≤◌, ◌≡◌, Bool, ◌⊎◌, List, ℤ, pos, length, set}
+use Rattle.std.specs.Prelude.{ℕ, suc, ◌+◌, ◌-◌, ◌*◌, ◌<◌, ◌≤◌, ◌≡◌, Bool, ◌⊎◌, List, ℤ, pos, length, set, Result, Ok, Err}
 use Rattle.algebra.specs.Vec.{coef, trunc, topped, zeroᵛ}
 use Rattle.algebra.specs.Zmod.{Residue, to_z}
 use Rattle.residue.specs.Number.{Modulus}
@@ -24,10 +24,8 @@ use Rattle.products.specs.Value.{part}
 use Rattle.euclid.specs.Answer.{Answer, done, shown, long}
 use Rattle.euclid.specs.Number.{inverse₀}
 use Rattle.sequences.specs.declared.Led.{Led}
-use Rattle.sequences.specs.declared.Outcome.{Outcome}
-use Rattle.sequences.specs.declared.Outcome.TheVariants.{Done, Factor}
-use Rattle.sequences.specs.declared.Turn.{Turn}
-use Rattle.sequences.specs.declared.Turn.TheVariants.{Next, Shows}
+use Rattle.sequences.specs.declared.Stop.{Stop}
+use Rattle.sequences.specs.declared.Stop.TheVariants.{Factor}
 use Rattle.sequences.specs.Numbers.{Held}
 
 -- ---- copies
@@ -43,12 +41,12 @@ pub record NumberReady (p : ℕ) (x : List ℤ) (x_in : Bool) (a : ℕ) (w : Lis
   pub number : Held p (pick x_in w x) a
   pub c_inside : c < length w
 
-abbrev pub Came₀ : (p : ℕ) → Answer ℕ (Residue p) → Outcome → List ℤ → List ℤ → ℕ → Type 0
-Came₀ p (done u) r w w' c = (r ≡ Done) × (w' ≡ set w c (pos u.0))
-Came₀ p (shown h) r w w' c = (r ≡ Factor 0) × (w' ≡ set w c (pos h))
+abbrev pub Came₀ : (p : ℕ) → Answer ℕ (Residue p) → Result (Unit {0}) Stop → List ℤ → List ℤ → ℕ → Type 0
+Came₀ p (done u) r w w' c = (r ≡ Ok tt) × (w' ≡ set w c (pos u.0))
+Came₀ p (shown h) r w w' c = (r ≡ Err (Factor 0 c)) × (w' ≡ set w c (pos h))
 Came₀ p long r w w' c = ⊥
 
-pub record NumberDone (p : ℕ) (x : List ℤ) (x_in : Bool) (a : ℕ) (w w' : List ℤ) (c : ℕ) (r : Outcome) : Type 0 where
+pub record NumberDone (p : ℕ) (x : List ℤ) (x_in : Bool) (a : ℕ) (w w' : List ℤ) (c : ℕ) (r : Result (Unit {0}) Stop) : Type 0 where
   pub frame : Kept c 1 w w'
   pub done : (p_pos : 0 < p) (v : Residue p) → at (pick x_in w x) a ≡ v.0 → ¬ (v ≡ to_z p p_pos 0) → Came₀ p (inverse₀ p p_pos v) r w w' c
 
@@ -62,13 +60,13 @@ pub record FollowNumberReady (p row n k unit : ℕ) (w : List ℤ) : Type 0 wher
   pub free_inside : row + n < length w
 
 -- the inverse stands at unit, or the divisor at free
-abbrev pub Follows₀ : (p : ℕ) → Answer ℕ (Residue p) → (k free unit : ℕ) → Turn → List ℤ → List ℤ → Type 0
-Follows₀ p (done u) k free unit r w w' = (r ≡ Next k) × (w' ≡ set w unit (pos u.0))
-Follows₀ p (shown h) k free unit r w w' = (r ≡ Shows 0 free) × (w' ≡ set w free (pos h))
+abbrev pub Follows₀ : (p : ℕ) → Answer ℕ (Residue p) → (k free unit : ℕ) → Result ℕ Stop → List ℤ → List ℤ → Type 0
+Follows₀ p (done u) k free unit r w w' = (r ≡ Ok k) × (w' ≡ set w unit (pos u.0))
+Follows₀ p (shown h) k free unit r w w' = (r ≡ Err (Factor 0 free)) × (w' ≡ set w free (pos h))
 Follows₀ p long k free unit r w w' = ⊥
 
 -- one of the two words has changed
-pub record FollowNumberDone (p row n k unit : ℕ) (w w' : List ℤ) (r : Turn) : Type 0 where
+pub record FollowNumberDone (p row n k unit : ℕ) (w w' : List ℤ) (r : Result ℕ Stop) : Type 0 where
   pub frame : Kept unit 1 w w' ⊎ Kept (row + n) 1 w w'
   pub done : (p_pos : 0 < p) (v : Residue p) → at w (row + (k - 1)) ≡ v.0 → ¬ (v ≡ to_z p p_pos 0)
       → Follows₀ p (inverse₀ p p_pos v) k (row + n) unit r w w'

@@ -5,8 +5,8 @@ ghost use Rattle.sequences.specs.Gcds.{LeadReady, LeadDone, MonicReady, MonicDon
 
 use super::inverse::{follow, invert};
 use super::rows::{divide_row, scale_row};
-use crate::{Found, Led, Outcome, Turn};
-use arithmetic::places::part_at;
+use crate::{Greatest, Led, Stop};
+use arithmetic::places::{Source, part_at};
 use tower::sizes::size_at;
 use tower::store::one;
 
@@ -16,35 +16,24 @@ pub fn lead(
     d: [usize; 4],
     z: [usize; 5],
     p: u64,
-    e: &[i64],
-    e_in: bool,
-    ea: usize,
+    e: Source,
     f: Led,
     w: &mut [i64],
     top: usize,
-) -> Outcome
-    requires { LeadReady i d z p e.now e_in ea f.row f.unit f.count w.old top }
-    ensures { LeadDone i d p e.now e_in ea f.row f.unit f.count w.old w.new top result }
+) -> Result<(), Stop>
+    requires { LeadReady i d z p e.lent.now e.stored e.at f.row f.unit f.count w.old top }
+    ensures { LeadDone i d p e.entry.lent.now e.entry.stored e.entry.at f.row f.unit f.count w.old w.new top result }
 {
     if f.count == 0 {
-        return Outcome::Done;
+        return Ok(());
     }
     let s = size_at(z, i);
-    invert(
-        i,
-        d,
-        z,
-        p,
-        e,
-        e_in,
-        ea,
-        e,
-        true,
-        part_at(f.row, f.count - 1, s),
-        w,
-        f.unit,
-        top,
-    )
+    let leading = Source {
+        stored: true,
+        at: part_at(f.row, f.count - 1, s),
+        ..e
+    };
+    invert(i, d, z, p, e, leading, w, f.unit, top)
 }
 
 // f made monic, where it is not zero.
@@ -53,21 +42,25 @@ pub fn monic(
     d: [usize; 4],
     z: [usize; 5],
     p: u64,
-    e: &[i64],
-    e_in: bool,
-    ea: usize,
+    e: Source,
     f: Led,
     w: &mut [i64],
     top: usize,
-) -> Found
-    requires { MonicReady i d z p e.now e_in ea f.row f.unit f.count w.old top }
-    ensures { MonicDone i d p e.now e_in ea f.row f.unit f.count w.old w.new top result }
+) -> Greatest
+    requires { MonicReady i d z p e.lent.now e.stored e.at f.row f.unit f.count w.old top }
+    ensures { MonicDone i d p e.entry.lent.now e.entry.stored e.entry.at f.row f.unit f.count w.old w.new top result }
 {
     if f.count == 0 {
-        return Found::Greatest(f.row, 0);
+        return Greatest {
+            at: f.row,
+            count: 0,
+        };
     }
-    scale_row(i, f.count, d, z, p, e, e_in, ea, f.unit, w, f.row, top);
-    Found::Greatest(f.row, f.count)
+    scale_row(i, f.count, d, z, p, e, f.unit, w, f.row, top);
+    Greatest {
+        at: f.row,
+        count: f.count,
+    }
 }
 
 // The remainder of f by g in f's row, and the inverse of its leading coefficient. Where f has the lower degree it is the remainder itself.
@@ -76,19 +69,17 @@ pub fn turn(
     d: [usize; 4],
     z: [usize; 5],
     p: u64,
-    e: &[i64],
-    e_in: bool,
-    ea: usize,
+    e: Source,
     f: Led,
     g: Led,
     w: &mut [i64],
     top: usize,
-) -> Turn
-    requires { TurnReady i d z p e.now e_in ea f.row f.unit f.count g.row g.unit g.count w.old top }
-    ensures { TurnDone i d p e.now e_in ea f.row f.unit f.count g.row g.unit g.count w.old w.new top result }
+) -> Result<usize, Stop>
+    requires { TurnReady i d z p e.lent.now e.stored e.at f.row f.unit f.count g.row g.unit g.count w.old top }
+    ensures { TurnDone i d p e.entry.lent.now e.entry.stored e.entry.at f.row f.unit f.count g.row g.unit g.count w.old w.new top result }
 {
     if f.count < g.count {
-        return Turn::Next(f.count);
+        return Ok(f.count);
     }
     divide_row(
         i,
@@ -96,8 +87,6 @@ pub fn turn(
         z,
         p,
         e,
-        e_in,
-        ea,
         g.row,
         g.count - 1,
         g.unit,
@@ -106,7 +95,7 @@ pub fn turn(
         f.count,
         top,
     );
-    follow(i, d, z, p, e, e_in, ea, f.row, g.count - 1, f.unit, w, top)
+    follow(i, d, z, p, e, f.row, g.count - 1, f.unit, w, top)
 }
 
 // The end of the sequence: 1 where g is a constant, by which every remainder is zero; where g is zero, f made monic.
@@ -115,22 +104,23 @@ pub fn end_turns(
     d: [usize; 4],
     z: [usize; 5],
     p: u64,
-    e: &[i64],
-    e_in: bool,
-    ea: usize,
+    e: Source,
     f: Led,
     g: Led,
     w: &mut [i64],
     top: usize,
-) -> Found
-    requires { (g.count ≤ 1) × TurnsReady i d z p e.now e_in ea f.row f.unit f.count g.row g.unit g.count w.old top }
-    ensures { TurnsDone i d p e.now e_in ea f.row f.unit f.count g.row g.unit g.count w.old w.new top result }
+) -> Greatest
+    requires { (g.count ≤ 1) × TurnsReady i d z p e.lent.now e.stored e.at f.row f.unit f.count g.row g.unit g.count w.old top }
+    ensures { TurnsDone i d p e.entry.lent.now e.entry.stored e.entry.at f.row f.unit f.count g.row g.unit g.count w.old w.new top (Ok result) }
 {
     if g.count == 1 {
         one(i, d, z, w, g.row);
-        return Found::Greatest(g.row, 1);
+        return Greatest {
+            at: g.row,
+            count: 1,
+        };
     }
-    monic(i, d, z, p, e, e_in, ea, f, w, top)
+    monic(i, d, z, p, e, f, w, top)
 }
 
 // The sequence from two polynomials, the inverses of whose leading coefficients stand; the second may be zero.
@@ -139,55 +129,33 @@ pub fn turns(
     d: [usize; 4],
     z: [usize; 5],
     p: u64,
-    e: &[i64],
-    e_in: bool,
-    ea: usize,
+    e: Source,
     first: Led,
     second: Led,
     w: &mut [i64],
     top: usize,
-) -> Found
-    requires { TurnsReady i d z p e.now e_in ea first.row first.unit first.count second.row second.unit second.count w.old top }
-    ensures { TurnsDone i d p e.now e_in ea first.row first.unit first.count second.row second.unit second.count w.old w.new top result }
+) -> Result<Greatest, Stop>
+    requires { TurnsReady i d z p e.lent.now e.stored e.at first.row first.unit first.count second.row second.unit second.count w.old top }
+    ensures { TurnsDone i d p e.entry.lent.now e.entry.stored e.entry.at first.row first.unit first.count second.row second.unit second.count w.old w.new top result }
 {
     let mut f = first;
     let mut g = second;
-    let mut left = larger(f.count, g.count) + 1;
-    while 1 < g.count {
-        if left == 0 {
-            return Found::Never;
+    let most = larger(f.count, g.count) + 1;
+    for _taken in 0..most {
+        if g.count < 2 {
+            return Ok(end_turns(i, d, z, p, e, f, g, w, top));
         }
-        left -= 1;
-        match turn(i, d, z, p, e, e_in, ea, f, g, w, top) {
-            Turn::Next(n) => {
-                let r = f;
-                f = g;
-                g = Led {
-                    row: r.row,
-                    carried: r.carried,
-                    unit: r.unit,
-                    count: n,
-                };
-            }
-            Turn::Shows(level, at) => {
-                return Found::Divides(level, at);
-            }
-            Turn::Over => {
-                return Found::Never;
-            }
-        }
+        let count = turn(i, d, z, p, e, f, g, w, top)?;
+        (f, g) = (g, Led { count, ..f });
     }
-    end_turns(i, d, z, p, e, e_in, ea, f, g, w, top)
+    Err(Stop::Long)
 }
 
 // The larger of two numbers.
 pub fn larger(m: usize, n: usize) -> usize
     ensures { result ≡ max m n }
 {
-    if m < n {
-        return n;
-    }
-    m
+    m.max(n)
 }
 
 // The GCD of f and g where the inverse of f's leading coefficient stands.
@@ -196,30 +164,20 @@ pub fn gcd_led(
     d: [usize; 4],
     z: [usize; 5],
     p: u64,
-    e: &[i64],
-    e_in: bool,
-    ea: usize,
+    e: Source,
     f: Led,
     g: Led,
     w: &mut [i64],
     top: usize,
-) -> Found
-    requires { GcdLedReady i d z p e.now e_in ea f.row f.unit f.count g.row g.unit g.count w.old top }
-    ensures { GcdLedDone i d p e.now e_in ea f.row f.unit f.count g.row g.unit g.count w.old w.new top result }
+) -> Result<Greatest, Stop>
+    requires { GcdLedReady i d z p e.lent.now e.stored e.at f.row f.unit f.count g.row g.unit g.count w.old top }
+    ensures { GcdLedDone i d p e.entry.lent.now e.entry.stored e.entry.at f.row f.unit f.count g.row g.unit g.count w.old w.new top result }
 {
-    match lead(i, d, z, p, e, e_in, ea, g, w, top) {
-        Outcome::Done => {}
-        Outcome::Factor(level) => {
-            return Found::Divides(level, g.unit);
-        }
-        Outcome::Long => {
-            return Found::Never;
-        }
-    }
+    lead(i, d, z, p, e, g, w, top)?;
     if f.count == 0 {
-        return monic(i, d, z, p, e, e_in, ea, g, w, top);
+        return Ok(monic(i, d, z, p, e, g, w, top));
     }
-    turns(i, d, z, p, e, e_in, ea, f, g, w, top)
+    turns(i, d, z, p, e, f, g, w, top)
 }
 
 // The GCD of f and g: its coefficients stand where the result says.
@@ -228,20 +186,15 @@ pub fn gcd(
     d: [usize; 4],
     z: [usize; 5],
     p: u64,
-    e: &[i64],
-    e_in: bool,
-    ea: usize,
+    e: Source,
     f: Led,
     g: Led,
     w: &mut [i64],
     top: usize,
-) -> Found
-    requires { GcdReady i d z p e.now e_in ea f.row f.unit f.count g.row g.unit g.count w.old top }
-    ensures { GcdDone i d p e.now e_in ea f.row f.unit f.count g.row g.unit g.count w.old w.new top result }
+) -> Result<Greatest, Stop>
+    requires { GcdReady i d z p e.lent.now e.stored e.at f.row f.unit f.count g.row g.unit g.count w.old top }
+    ensures { GcdDone i d p e.entry.lent.now e.entry.stored e.entry.at f.row f.unit f.count g.row g.unit g.count w.old w.new top result }
 {
-    match lead(i, d, z, p, e, e_in, ea, f, w, top) {
-        Outcome::Done => gcd_led(i, d, z, p, e, e_in, ea, f, g, w, top),
-        Outcome::Factor(level) => Found::Divides(level, f.unit),
-        Outcome::Long => Found::Never,
-    }
+    lead(i, d, z, p, e, f, w, top)?;
+    gcd_led(i, d, z, p, e, f, g, w, top)
 }

@@ -7,46 +7,42 @@ ghost use Rattle.sequences.specs.Outcomes.{InvertReady, InvertDone, RunReady, Ru
 ghost use Rattle.sequences.specs.Passes.{RemainderReady, RemainderDone, CloseReady, CloseDone, Underway, PassesDone};
 
 use super::rows::{divide_row, lose_product, scale_row, times};
-use super::starts::{begin, count_in, finish, follow_number, invert_number, led_at};
-use crate::{Ended, Led, Outcome, Turn};
-use arithmetic::places::part_at;
+use super::starts::{begin, count_in, finish, follow_number, invert_number};
+use crate::{Led, Stop};
+use arithmetic::places::{Source, part_at};
 use arithmetic::rows::top_of;
 use tower::sizes::{degree_at, size_at};
 use tower::store::copy;
 
-// The inverse of the element of level i at a, at c; or there the words of a factor.
+// The inverse of the element x of level i, at c; or there the words of a factor.
 #[cycle(follow_invert_passes_run)]
 pub fn invert(
     i: usize,
     d: [usize; 4],
     z: [usize; 5],
     p: u64,
-    e: &[i64],
-    e_in: bool,
-    ea: usize,
-    x: &[i64],
-    x_in: bool,
-    a: usize,
+    e: Source,
+    x: Source,
     w: &mut [i64],
     c: usize,
     top: usize,
-) -> Outcome
-    requires { InvertReady i d z p e.now e_in ea x.now x_in a w.old c top }
-    ensures { InvertDone i d p e.now e_in ea x.now x_in a w.old w.new c top result }
+) -> Result<(), Stop>
+    requires { InvertReady i d z p e.lent.now e.stored e.at x.lent.now x.stored x.at w.old c top }
+    ensures { InvertDone i d p e.entry.lent.now e.entry.stored e.entry.at x.entry.lent.now x.entry.stored x.entry.at w.old w.new c top result }
 {
     if i == 0 {
-        return invert_number(p, x, x_in, a, w, c);
+        return invert_number(p, x, w, c);
     }
-    match run(i, d, z, p, e, e_in, ea, x, x_in, a, w, top) {
-        Ended::Inverse(at) => {
+    match run(i, d, z, p, e, x, w, top) {
+        Ok(at) => {
             copy(w, c, at, size_at(z, i));
-            Outcome::Done
+            Ok(())
         }
-        Ended::Divisor(level, at) => {
+        Err(Stop::Factor { level, at }) => {
             copy(w, c, at, size_at(z, level));
-            Outcome::Factor(level)
+            Err(Stop::Factor { level, at: c })
         }
-        Ended::Endless => Outcome::Long,
+        Err(Stop::Long) => Err(Stop::Long),
     }
 }
 
@@ -57,49 +53,34 @@ pub fn follow(
     d: [usize; 4],
     z: [usize; 5],
     p: u64,
-    e: &[i64],
-    e_in: bool,
-    ea: usize,
+    e: Source,
     row: usize,
     n: usize,
     unit: usize,
     w: &mut [i64],
     top: usize,
-) -> Turn
-    requires { FollowReady i d z p e.now e_in ea row n unit w.old top }
-    ensures { FollowDone i d p e.now e_in ea row n unit w.old w.new top result }
+) -> Result<usize, Stop>
+    requires { FollowReady i d z p e.lent.now e.stored e.at row n unit w.old top }
+    ensures { FollowDone i d p e.entry.lent.now e.entry.stored e.entry.at row n unit w.old w.new top result }
 {
     let s = size_at(z, i);
     let k = top_of(i, n, s, w, row - 1);
     if k == 0 {
-        return Turn::Next(0);
+        return Ok(0);
     }
     if i == 0 {
         return follow_number(p, row, n, k, unit, w);
     }
     let free = part_at(row, n, s);
-    times(
-        i,
-        d,
-        z,
-        p,
-        e,
-        e_in,
-        ea,
-        unit,
-        part_at(row, k - 1, s),
-        w,
-        free,
-        top,
-    );
-    match invert(i, d, z, p, e, e_in, ea, e, true, free, w, free, top) {
-        Outcome::Done => {
-            times(i, d, z, p, e, e_in, ea, free, unit, w, unit, top);
-            Turn::Next(k)
-        }
-        Outcome::Factor(level) => Turn::Shows(level, free),
-        Outcome::Long => Turn::Over,
-    }
+    times(i, d, z, p, e, unit, part_at(row, k - 1, s), w, free, top);
+    let product = Source {
+        stored: true,
+        at: free,
+        ..e
+    };
+    invert(i, d, z, p, e, product, w, free, top)?;
+    times(i, d, z, p, e, free, unit, w, unit, top);
+    Ok(k)
 }
 
 // The remainder of f by k in the row of f, and what it carries in the place of what f carries.
@@ -110,22 +91,18 @@ pub fn remainder(
     d: [usize; 4],
     z: [usize; 5],
     p: u64,
-    e: &[i64],
-    e_in: bool,
-    under: usize,
+    e: Source,
     f: Led,
     k: Led,
     w: &mut [i64],
     next: usize,
 )
-    requires { RemainderReady h g s d z p e.now e_in under f k w.old next }
-    ensures { RemainderDone h g s d p e.now e_in under f k w.old w.new next }
+    requires { RemainderReady h g s d z p e.lent.now e.stored e.at f k w.old next }
+    ensures { RemainderDone h g s d p e.entry.lent.now e.entry.stored e.entry.at f k w.old w.new next }
 {
     let n = k.count - 1;
     let lows = g + 2 - f.count;
-    divide_row(
-        h, d, z, p, e, e_in, under, k.row, n, k.unit, w, f.row, f.count, next,
-    );
+    divide_row(h, d, z, p, e, k.row, n, k.unit, w, f.row, f.count, next);
     let q = part_at(f.row, n, s);
     lose_product(
         h,
@@ -133,8 +110,6 @@ pub fn remainder(
         z,
         p,
         e,
-        e_in,
-        under,
         q,
         f.count - n,
         k.carried,
@@ -153,25 +128,26 @@ pub fn close(
     d: [usize; 4],
     z: [usize; 5],
     p: u64,
-    e: &[i64],
-    e_in: bool,
-    under: usize,
+    e: Source,
     f: Led,
     k: Led,
     w: &mut [i64],
     next: usize,
-) -> Ended
-    requires { CloseReady h g s d z p e.now e_in under f k w.old next }
-    ensures { CloseDone h g d p e.now e_in under f k w.old w.new next result }
+) -> Result<usize, Stop>
+    requires { CloseReady h g s d z p e.lent.now e.stored e.at f k w.old next }
+    ensures { CloseDone h g d p e.entry.lent.now e.entry.stored e.entry.at f k w.old w.new next result }
 {
     if k.count == 0 {
-        scale_row(h, f.count, d, z, p, e, e_in, under, f.unit, w, f.row, next);
+        scale_row(h, f.count, d, z, p, e, f.unit, w, f.row, next);
         finish(h, f.count, g, s, d, z, w, f.row);
-        return Ended::Divisor(h + 1, f.row - 1);
+        return Err(Stop::Factor {
+            level: h + 1,
+            at: f.row - 1,
+        });
     }
-    scale_row(h, g, d, z, p, e, e_in, under, k.unit, w, k.carried, next);
+    scale_row(h, g, d, z, p, e, k.unit, w, k.carried, next);
     finish(h, g, g, s, d, z, w, k.carried);
-    Ended::Inverse(k.carried - 1)
+    Ok(k.carried - 1)
 }
 
 // The sequence from two neighbours on: the remainders in turn, and the end.
@@ -183,47 +159,27 @@ pub fn passes(
     d: [usize; 4],
     z: [usize; 5],
     p: u64,
-    e: &[i64],
-    e_in: bool,
-    under: usize,
+    e: Source,
     first: Led,
     second: Led,
     w: &mut [i64],
     next: usize,
-) -> Ended
-    requires { Underway h g s d z p e.now e_in under first second w.old next }
-    ensures { PassesDone h g s d z p e.now e_in under first second w.old w.new next result }
+) -> Result<usize, Stop>
+    requires { Underway h g s d z p e.lent.now e.stored e.at first second w.old next }
+    ensures { PassesDone h g s d z p e.entry.lent.now e.entry.stored e.entry.at first second w.old w.new next result }
 {
     let mut f = first;
     let mut k = second;
-    let mut left = g + 2;
-    while 1 < k.count {
-        if left == 0 {
-            return Ended::Endless;
+    for _taken in 0..g + 2 {
+        if k.count < 2 {
+            return close(h, g, s, d, z, p, e, f, k, w, next);
         }
-        left -= 1;
-        remainder(h, g, s, d, z, p, e, e_in, under, f, k, w, next);
+        remainder(h, g, s, d, z, p, e, f, k, w, next);
         let n = k.count - 1;
-        match follow(h, d, z, p, e, e_in, under, f.row, n, f.unit, w, next) {
-            Turn::Next(c) => {
-                let r = f;
-                f = k;
-                k = Led {
-                    row: r.row,
-                    carried: r.carried,
-                    unit: r.unit,
-                    count: c,
-                };
-            }
-            Turn::Shows(level, at) => {
-                return Ended::Divisor(level, at);
-            }
-            Turn::Over => {
-                return Ended::Endless;
-            }
-        }
+        let count = follow(h, d, z, p, e, f.row, n, f.unit, w, next)?;
+        (f, k) = (k, Led { count, ..f });
     }
-    close(h, g, s, d, z, p, e, e_in, under, f, k, w, next)
+    Err(Stop::Long)
 }
 
 // The inverse at level i, above 0: the answer stands where the result says, among the words from top on.
@@ -233,33 +189,33 @@ pub fn run(
     d: [usize; 4],
     z: [usize; 5],
     p: u64,
-    e: &[i64],
-    e_in: bool,
-    ea: usize,
-    x: &[i64],
-    x_in: bool,
-    a: usize,
+    e: Source,
+    x: Source,
     w: &mut [i64],
     top: usize,
-) -> Ended
-    requires { (0 < i) × RunReady i d z p e.now e_in ea x.now x_in a w.old top }
-    ensures { RunDone i d p e.now e_in ea x.now x_in a w.old w.new top result }
+) -> Result<usize, Stop>
+    requires { (0 < i) × RunReady i d z p e.lent.now e.stored e.at x.lent.now x.stored x.at w.old top }
+    ensures { RunDone i d p e.entry.lent.now e.entry.stored e.entry.at x.entry.lent.now x.entry.stored x.entry.at w.old w.new top result }
 {
     let h = i - 1;
     let g = degree_at(d, h);
     let s = size_at(z, h);
-    let under = ea + size_at(z, i) + s;
+    let under = Source {
+        at: e.at + size_at(z, i) + s,
+        ..e
+    };
     let slot = (g + 1) * s + 1;
     let next = top + 5 * slot;
-    let n = count_in(x, x_in, a, w);
-    begin(h, g, s, d, z, e, e_in, ea, x, x_in, a, w, top);
+    let n = count_in(x, w);
+    begin(h, g, s, d, z, e, x, w, top);
     let unit = top + 4 * slot;
-    let f = led_at(top, slot, unit, g + 1);
-    let k = led_at(top + slot, slot, unit + s, n);
-    let at = part_at(k.row, n - 1, s);
-    match invert(h, d, z, p, e, e_in, under, e, true, at, w, k.unit, next) {
-        Outcome::Done => passes(h, g, s, d, z, p, e, e_in, under, f, k, w, next),
-        Outcome::Factor(level) => Ended::Divisor(level, k.unit),
-        Outcome::Long => Ended::Endless,
-    }
+    let f = Led::in_slot(top, slot, unit, g + 1);
+    let k = Led::in_slot(top + slot, slot, unit + s, n);
+    let leading = Source {
+        stored: true,
+        at: part_at(k.row, n - 1, s),
+        ..e
+    };
+    invert(h, d, z, p, under, leading, w, k.unit, next)?;
+    passes(h, g, s, d, z, p, under, f, k, w, next)
 }

@@ -1,4 +1,7 @@
 // Rows of numbers in the store: level 0 of `rows`, in loops without the arrays of a tower.
+//
+// Stays: these loops beside those of `rows`, and those for two numbers beside those for any, since a GCD takes up to 29 per cent longer without them
+// (docs/DECISIONS.md, "Level 0 has loops of its own").
 ghost use Rattle.std.specs.Prelude.{◌+◌, ◌≡◌, pos, set};
 ghost use Rattle.sequences.specs.Numbers.{TimesNumbersReady, times_number, LoseDotReady, lost_number, LoseRowReady, LoseRowDone, DivideAtReady, DividedAt};
 ghost use Rattle.sequences.specs.Numbers.{ScaleNumbersReady, ScaleNumbersDone, LoseNumbersReady, LoseNumbersDone, DivideNumbersReady, DivideNumbersDone};
@@ -22,8 +25,7 @@ pub fn lose_dot(p: u64, a: usize, b: usize, n: usize, w: &mut [i64], c: usize)
     requires { LoseDotReady p a b n w.old c }
     ensures { w.new ≡ set w.old c (pos (lost_number p a b n w.old c)) }
 {
-    let s = Accumulator { lo: 0, hi: 0 };
-    let v = residue::reduce(dot(w, a, w, b, n, 1, s), p);
+    let v = residue::reduce(dot(w, a, w, b, n, 1, Accumulator::ZERO), p);
     let u = residue::get_residue(w, c);
     residue::put(w, c, residue::subtract(u, v, p));
 }
@@ -33,10 +35,8 @@ pub fn scale_numbers(n: usize, p: u64, u: usize, w: &mut [i64], c: usize)
     requires { ScaleNumbersReady n p u w.old c }
     ensures { ScaleNumbersDone n p u w.old w.new c }
 {
-    let mut k: usize = 0;
-    while k < n {
+    for k in 0..n {
         times_numbers(p, u, c + k, w, c + k);
-        k += 1;
     }
 }
 
@@ -45,14 +45,11 @@ pub fn lose_row(p: u64, q: u64, r: u64, b: usize, n: usize, w: &mut [i64], c: us
     requires { LoseRowReady p q r b n w.old c }
     ensures { LoseRowDone p q r b n w.old w.new c }
 {
-    let mut k: usize = 0;
-    while k < n {
-        let s = Accumulator { lo: 0, hi: 0 };
-        let t = residue::fold(s, q * residue::get_residue(w, b + 1 + k));
+    for k in 0..n {
+        let t = residue::fold(Accumulator::ZERO, q * residue::get_residue(w, b + 1 + k));
         let v = residue::reduce(residue::fold(t, r * residue::get_residue(w, b + k)), p);
         let u = residue::get_residue(w, c + k);
         residue::put(w, c + k, residue::subtract(u, v, p));
-        k += 1;
     }
 }
 
@@ -77,9 +74,7 @@ pub fn lose_numbers(p: u64, a: usize, m: usize, b: usize, n: usize, w: &mut [i64
         lose_line(p, a, b, n, w, c);
         return;
     }
-    let h = m + n - 1;
-    let mut k: usize = 0;
-    while k < h {
+    for k in 0..m + n - 1 {
         lose_dot(
             p,
             a + first_of(n, k),
@@ -88,7 +83,6 @@ pub fn lose_numbers(p: u64, a: usize, m: usize, b: usize, n: usize, w: &mut [i64
             w,
             c + k,
         );
-        k += 1;
     }
 }
 
@@ -145,9 +139,7 @@ pub fn divide_numbers(p: u64, b: usize, g: usize, u: usize, w: &mut [i64], a: us
         divide_line(p, b, g, u, w, a);
         return;
     }
-    let mut k = cap;
-    while 0 < k {
-        k -= 1;
+    for k in (0..cap).rev() {
         divide_at(k, p, b, g, u, w, a, cap);
     }
 }

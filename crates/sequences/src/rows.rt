@@ -2,7 +2,7 @@
 ghost use Rattle.sequences.specs.Rows.{TimesReady, TimesDone, ScaleRowReady, ScaleRowDone, LoseReady, LoseDone, DivideReady, DivideDone};
 
 use super::numbers::{divide_numbers, lose_numbers, scale_numbers, times_numbers};
-use arithmetic::places::{first_of, part_at, span_of};
+use arithmetic::places::{Source, first_of, part_at, span_of};
 use products::Operands;
 use products::product::product;
 use products::unit::unit_remainder;
@@ -14,32 +14,29 @@ pub fn times(
     d: [usize; 4],
     z: [usize; 5],
     p: u64,
-    e: &[i64],
-    e_in: bool,
-    ea: usize,
+    e: Source,
     a: usize,
     b: usize,
     w: &mut [i64],
     c: usize,
     top: usize,
 )
-    requires { TimesReady i d z p e.now e_in ea a b w.old c top }
-    ensures { TimesDone i d p e.now e_in ea a b w.old w.new c top }
+    requires { TimesReady i d z p e.lent.now e.stored e.at a b w.old c top }
+    ensures { TimesDone i d p e.entry.lent.now e.entry.stored e.entry.at a b w.old w.new c top }
 {
     if i == 0 {
         times_numbers(p, a, b, w, c);
         return;
     }
-    let m = [0usize; 4];
+    let places = [0usize; 4];
+    let own = Source { stored: true, ..e };
     let o = Operands {
-        i: i,
-        x_in: true,
-        a: a,
-        y_in: true,
-        b: b,
+        i,
+        x: Source { at: a, ..own },
+        y: Source { at: b, ..own },
         n: 1,
     };
-    product(i, d, z, p, m, e, e_in, ea, e, e, o, false, false, w, c, top);
+    product(i, d, z, p, places, e, o, false, false, w, c, top);
 }
 
 // Each of the n elements of level i from c on is multiplied by the one at u.
@@ -49,27 +46,23 @@ pub fn scale_row(
     d: [usize; 4],
     z: [usize; 5],
     p: u64,
-    e: &[i64],
-    e_in: bool,
-    ea: usize,
+    e: Source,
     u: usize,
     w: &mut [i64],
     c: usize,
     top: usize,
 )
-    requires { ScaleRowReady i n d z p e.now e_in ea u w.old c top }
-    ensures { ScaleRowDone i n d p e.now e_in ea u w.old w.new c top }
+    requires { ScaleRowReady i n d z p e.lent.now e.stored e.at u w.old c top }
+    ensures { ScaleRowDone i n d p e.entry.lent.now e.entry.stored e.entry.at u w.old w.new c top }
 {
     if i == 0 {
         scale_numbers(n, p, u, w, c);
         return;
     }
     let s = size_at(z, i);
-    let mut k: usize = 0;
-    while k < n {
+    for k in 0..n {
         let at = part_at(c, k, s);
-        times(i, d, z, p, e, e_in, ea, u, at, w, at, top);
-        k += 1;
+        times(i, d, z, p, e, u, at, w, at, top);
     }
 }
 
@@ -79,9 +72,7 @@ pub fn lose_product(
     d: [usize; 4],
     z: [usize; 5],
     p: u64,
-    e: &[i64],
-    e_in: bool,
-    ea: usize,
+    e: Source,
     a: usize,
     m: usize,
     b: usize,
@@ -90,32 +81,28 @@ pub fn lose_product(
     c: usize,
     top: usize,
 )
-    requires { LoseReady i d z p e.now e_in ea a m b n w.old c top }
-    ensures { LoseDone i d p e.now e_in ea a m b n w.old w.new c top }
+    requires { LoseReady i d z p e.lent.now e.stored e.at a m b n w.old c top }
+    ensures { LoseDone i d p e.entry.lent.now e.entry.stored e.entry.at a m b n w.old w.new c top }
 {
     if i == 0 {
         lose_numbers(p, a, m, b, n, w, c);
         return;
     }
     let s = size_at(z, i);
-    let h = m + n - 1;
-    let mut k: usize = 0;
-    while k < h {
+    let places = [0usize; 4];
+    let own = Source { stored: true, ..e };
+    for k in 0..m + n - 1 {
         let x = part_at(a, first_of(n, k), s);
         let y = part_at(b, first_of(m, k), s);
         let q = span_of(m, n, k);
         let at = part_at(c, k, s);
-        let l = [0usize; 4];
         let o = Operands {
-            i: i,
-            x_in: true,
-            a: x,
-            y_in: true,
-            b: y,
+            i,
+            x: Source { at: x, ..own },
+            y: Source { at: y, ..own },
             n: q,
         };
-        product(i, d, z, p, l, e, e_in, ea, e, e, o, true, true, w, at, top);
-        k += 1;
+        product(i, d, z, p, places, e, o, true, true, w, at, top);
     }
 }
 
@@ -126,9 +113,7 @@ pub fn divide_row(
     d: [usize; 4],
     z: [usize; 5],
     p: u64,
-    e: &[i64],
-    e_in: bool,
-    ea: usize,
+    e: Source,
     b: usize,
     g: usize,
     u: usize,
@@ -137,14 +122,15 @@ pub fn divide_row(
     cap: usize,
     top: usize,
 )
-    requires { DivideReady i d z p e.now e_in ea b g u w.old a cap top }
-    ensures { DivideDone i d p e.now e_in ea b g u w.old w.new a cap top }
+    requires { DivideReady i d z p e.lent.now e.stored e.at b g u w.old a cap top }
+    ensures { DivideDone i d p e.entry.lent.now e.entry.stored e.entry.at b g u w.old w.new a cap top }
 {
     if i == 0 {
         divide_numbers(p, b, g, u, w, a, cap);
         return;
     }
-    unit_remainder(
-        i, d, z, p, e, e_in, ea, e, true, b, g, e, true, u, w, a, cap, top,
-    );
+    let own = Source { stored: true, ..e };
+    let divisor = Source { at: b, ..own };
+    let inverse = Source { at: u, ..own };
+    unit_remainder(i, d, z, p, e, divisor, g, inverse, w, a, cap, top);
 }

@@ -2,10 +2,8 @@
 --
 -- decimal_few            == at most 20 bytes;  below_few == at most 19 of a negative word
 -- fewest_few, decimal-is == the fewest digits of `io`: at most 20, and these
--- word_below, word-above == the text of a word by its sign, from its magnitude
-use mathlib.Core.Path.{◌≡◌, refl}
-use mathlib.Core.Bool.{true, false}
-use mathlib.Core.List.{◌∷◌}
+use mathlib.Core.Path.{◌≡◌}
+use mathlib.Core.Bool.{true}
 use mathlib.Core.Logic.{⊎_elim}
 use Prim.Native.Nat.{ℕ, zero, suc, ◌+◌, ◌-◌, ◌/◌, ◌%◌, ◌^◌, ◌<◌, ◌≤◌}
 use native.Mathlib.Nat.{pow-suc, mod-lt, mod-eq_of_lt, div-lt_iff_lt-mul, le-div_iff_mul-le, one-le-pow, pow-le-pow_right}
@@ -20,7 +18,7 @@ use mir.Val.{SFits, to_z, of_z}
 use mir.ValLaws.{to_z-of_z}
 use Rattle.algebra.specs.Test.{le_or_lt}
 use Rattle.io.specs.Digits.{hex_digit_ascii, last_digits, IsDigitCount}
-use Rattle.text.specs.Text.{decimal_by, decimal, word_text}
+use Rattle.text.specs.Text.{decimal_by, decimal}
 use Rattle.text.specs.Written.{digit_alone, digit_behind, few_digits}
 
 -- ---- how many
@@ -58,25 +56,11 @@ decimal-is n (suc k) h f =
     fewest_by 19 k n (omega arith) f.1 (λ o. rw e at (f.2 (omega arith)))
 
 -- ---- a word by its sign
-below : (w : ℤ) → lt_z w (pos 0) ≡ true → 45 ∷ decimal (nat_abs w) ≡ word_text w
-below (pos n) t = absurd (omega (arith, ltb-true n 0 t))
-below (negsuc n) t = refl
-
-above : (w : ℤ) → lt_z w (pos 0) ≡ false → decimal (nat_abs w) ≡ word_text w
-above (pos n) t = refl
-above (negsuc n) t = let e : ◌≡◌ {A = ℕ} 0 1 = cc in absurd (omega arith)
-
 below_small : (w : ℤ) → SFits w64 w → lt_z w (pos 0) ≡ true → nat_abs w < 10 ^ 19
 below_small (pos n) f t = absurd (omega (arith, ltb-true n 0 t))
 below_small (negsuc n) f t = omega (arith, f.sfits)
 
 module _ (w : ℤ) (f : SFits w64 w) where
-  pub word_below : lt_z (to_z w64 (of_z w64 w)) (pos 0) ≡ true → 45 ∷ decimal (nat_abs (to_z w64 (of_z w64 w))) ≡ word_text w
-  word_below t = rw (to_z-of_z w64 w f) (below w (rw (to_z-of_z w64 w f) at t))
-
-  pub word-above : lt_z (to_z w64 (of_z w64 w)) (pos 0) ≡ false → decimal (nat_abs (to_z w64 (of_z w64 w))) ≡ word_text w
-  word-above t = rw (to_z-of_z w64 w f) (above w (rw (to_z-of_z w64 w f) at t))
-
   -- also -2^63 has 19 digits
   pub below_few : lt_z (to_z w64 (of_z w64 w)) (pos 0) ≡ true → length (decimal (nat_abs (to_z w64 (of_z w64 w)))) ≤ 19
   below_few t = rw (to_z-of_z w64 w f) (few_digits 18 (nat_abs w) (below_small w f (rw (to_z-of_z w64 w f) at t)))

@@ -15,9 +15,8 @@ use lib.Dec.{leb}
 use lib.IntN.{ℤ}
 use lib.ListN.{length, take, set, length-set}
 use lib.Seq.{take-suc-set, length-take-le}
-use Rattle.text.specs.declared.Number.{Number}
-use Rattle.text.specs.declared.Number.TheVariants.{Is, Not}
-use Rattle.text.specs.Fields.{most_words, most_digits, word_then, words_from, words_of, fields_at, Ends, WordsRead}
+use Rattle.std.specs.Prelude.{Option, Some, None}
+use Rattle.text.specs.Fields.{most_words, most_digits, word_then, words_from, words_of, fields_at, Ends, FirstWords}
 use Rattle.text.specs.Text.{number_of}
 use Rattle.text.specs.Written.{words_nil, words-cons}
 use Rattle.text.proofs.Texts.{part, part_end}
@@ -46,49 +45,51 @@ module _ {s : List ℕ} {at r : ℕ} (e : Ends s at r) where
 -- ---- turn by turn
 -- the fields in front of `at` are read, and their numbers are the first n words of w
 pub record Gathered (s : List ℕ) (from : ℕ) (was w : List ℤ) (at n : ℕ) : Type 0 where
+  pub low : from ≤ at
   pub passed : at ≤ length s + 1
+  pub begun : from < at → 0 < n
   pub few : n ≤ most_words
   pub room : length w ≡ length was
   pub rest : words_of (fields_at s from) ≡ words_from (take n w) (fields_from s at)
 
 pub none_gathered : (s : List ℕ) (from : ℕ) (was : List ℤ) → from ≤ length s → Gathered s from was was from 0
 none_gathered s from was h =
-    record { passed = omega arith; few = omega arith; room = refl; rest = sym (ap (words_from []) (from_within s from h)) }
+    record { low = omega arith; passed = omega arith; begun = λ m. absurd (omega arith); few = omega arith; room = refl; rest = sym (ap (words_from []) (from_within s from h)) }
 
 module _ {s : List ℕ} {from : ℕ} {was w : List ℤ} {at n : ℕ} (g : Gathered s from was w at n) where
-  pub all_read : length s < at → most_words ≤ length was → WordsRead w n (fields_at s from)
-  all_read h k =
+  pub all_read : from ≤ length s → length s < at → most_words ≤ length was → FirstWords w n (fields_at s from)
+  all_read l h k =
       let e : take n w ≡ words_of (fields_at s from) = sym (g.rest ∙ ap (words_from (take n w)) (from_behind s at h) ∙ words_nil (take n w)) in
       record {
+        some = g.begun (omega arith);
         few = g.few;
         words = e;
         count = sym (ap length (sym e) ∙ length-take-le n w (omega (arith, g.few, g.room)));
       }
 
-  module _ {r : ℕ} (within : at ≤ length s) (e : Ends s at r) {x : Number} (read : x ≡ number_of most_digits (part s at r)) where
+  module _ {r : ℕ} (within : at ≤ length s) (e : Ends s at r) {x : Option ℤ} (read : x ≡ number_of most_digits (part s at r)) where
     next : words_of (fields_at s from) ≡ word_then x (take n w) (λ more. words_from more (fields_from s (suc r)))
     next =
         g.rest
         ∙ ap (words_from (take n w)) (from_within s at within ∙ field_then e)
         ∙ words-cons (take n w) (part s at r) (fields_from s (suc r))
-        ∙ ap (λ (y : Number). word_then y (take n w) (λ more. words_from more (fields_from s (suc r)))) (sym read)
+        ∙ ap (λ (y : Option ℤ). word_then y (take n w) (λ more. words_from more (fields_from s (suc r)))) (sym read)
 
-    pub no_number : x ≡ Not → WordsRead w 0 (fields_at s from)
-    no_number q =
-        let none : words_of (fields_at s from) ≡ [] = next ∙ rw q in
-        record { few = omega arith; words = sym none; count = sym (ap length none) }
+    pub no_number : x ≡ None → words_of (fields_at s from) ≡ []
+    no_number q = next ∙ rw q
 
-    pub too_many : {z : ℤ} → x ≡ Is z → most_words ≤ n → most_words ≤ length was → WordsRead w 0 (fields_at s from)
+    pub too_many : {z : ℤ} → x ≡ Some z → most_words ≤ n → most_words ≤ length was → words_of (fields_at s from) ≡ []
     too_many {z} q h k =
         let held : length (take n w) ≡ n = length-take-le n w (omega (arith, g.few, g.room)) in
-        let none : words_of (fields_at s from) ≡ [] = next ∙ rw (q, held, le-ltb n most_words h) in
-        record { few = omega arith; words = sym none; count = sym (ap length none) }
+        next ∙ rw (q, held, le-ltb n most_words h)
 
-    pub one_gathered : {z : ℤ} → x ≡ Is z → n < most_words → most_words ≤ length was → Gathered s from was (set w n z) (r + 1) (n + 1)
+    pub one_gathered : {z : ℤ} → x ≡ Some z → n < most_words → most_words ≤ length was → Gathered s from was (set w n z) (r + 1) (n + 1)
     one_gathered {z} q h k =
         let held : length (take n w) ≡ n = length-take-le n w (omega (arith, g.few, g.room)) in
         record {
+          low = omega (arith, g.low, e.low);
           passed = omega (arith, e.high);
+          begun = λ m. omega arith;
           few = omega arith;
           room = simp length-set g.room;
           rest =

@@ -1,4 +1,3 @@
-pub mod Words
 pub mod Numerals
 pub mod Appends
 pub mod Decimals

@@ -1,7 +1,6 @@
 -- Laws of texts that are the same, and of the fields of a text as they are met from the front.
 --
--- same_refl, same_true, same_false   == same_text tells whether two texts are equal
--- same_shorter, same_differs, same_equal == as it is met: two lengths, two bytes, one text
+-- same_true               == two texts that same_text tells the same are equal
 -- part, part_end          == a part of a text; up to its end
 -- Passed                  == there is no tab from a place up to another
 -- none_passed, one-passed == how a search for a tab goes on
@@ -22,10 +21,6 @@ use Rattle.text.specs.Text.{tab, same_text}
 use Rattle.text.specs.Written.{fields_nil}
 
 -- ---- the same text
-pub same_refl : (a : List ℕ) → same_text a a ≡ true
-same_refl [] = refl
-same_refl (b ∷ s) = simp (eq-eqb b b refl, same_refl s)
-
 both_true : (x y : Bool) → (x && y) ≡ true → (x ≡ true) × (y ≡ true)
 both_true true y e = (refl, e)
 both_true false y e = (e, cc)
@@ -37,22 +32,6 @@ same_true (a ∷ r) [] e = cc
 same_true (a ∷ r) (b ∷ s) e =
     let h : (eqb a b ≡ true) × (same_text r s ≡ true) = both_true (eqb a b) (same_text r s) e in
     cc (eqb-true a b h.0, same_true r s h.1)
-
-never_true : (t : Bool) → (t ≡ true → ⊥) → t ≡ false
-never_true true h = absurd (h refl)
-never_true false h = refl
-
-pub same_false : (a b : List ℕ) → (a ≡ b → ⊥) → same_text a b ≡ false
-same_false a b h = never_true (same_text a b) (λ e. h (same_true a b e))
-
-pub same_shorter : (a b : List ℕ) → (length a ≡ length b → ⊥) → false ≡ same_text a b
-same_shorter a b h = sym (same_false a b (λ e. h (ap length e)))
-
-pub same_differs : (a b : List ℕ) (i : ℕ) → (get_or a i 0 ≡ get_or b i 0 → ⊥) → false ≡ same_text a b
-same_differs a b i h = sym (same_false a b (λ e. h (ap (λ (l : List ℕ). get_or l i 0) e)))
-
-pub same_equal : (a b : List ℕ) → a ≡ b → true ≡ same_text a b
-same_equal a b e = sym (rw e (same_refl b))
 
 -- ---- fields, byte by byte
 fields_tab : (b : ℕ) (s : List ℕ) → b ≡ tab → fields_of (b ∷ s) ≡ [] ∷ fields_of s

@@ -3,10 +3,8 @@
 -- before, fields_of    == the fields, parted at every tab
 -- words_from, words_of == the numbers of fields: "carries at most 512 words"
 -- fields_at            == the fields from a place on
--- Ends, WordsRead      == what the program's functions give
-use Rattle.std.specs.Prelude.{ℕ, suc, ◌-◌, ◌<◌, ◌≤◌, cond, List, [], ◌∷◌, ◌++◌, ◌≡◌, ltb, eqb, ℤ, length, take, drop}
-use Rattle.text.specs.declared.Number.{Number}
-use Rattle.text.specs.declared.Number.TheVariants.{Is, Not}
+-- Ends, FirstWords, WordsRead == what the program's functions give
+use Rattle.std.specs.Prelude.{ℕ, suc, ◌-◌, ◌<◌, ◌≤◌, cond, List, [], ◌∷◌, ◌++◌, ◌≡◌, ltb, eqb, ℤ, length, take, drop, Option, Some, None}
 use Rattle.text.specs.Text.{tab, number_of}
 
 -- ---- fields
@@ -38,9 +36,9 @@ abbrev pub most_digits : ℕ
 most_digits = 10
 
 -- a number more behind those in w, and then the rest
-abbrev pub word_then : Number → List ℤ → (List ℤ → List ℤ) → List ℤ
-word_then (Is x) w rest = cond (ltb (length w) most_words) (rest (w ++ (x ∷ []))) []
-word_then Not w rest = []
+abbrev pub word_then : Option ℤ → List ℤ → (List ℤ → List ℤ) → List ℤ
+word_then (Some x) w rest = cond (ltb (length w) most_words) (rest (w ++ (x ∷ []))) []
+word_then None w rest = []
 
 -- the numbers of the fields behind those in w; none where a field is no number, or there are too many
 unfoldable pub words_from : List ℤ → List (List ℕ) → List ℤ
@@ -59,8 +57,14 @@ pub record Ends (s : List ℕ) (from r : ℕ) : Type 0 where
   pub last : r ≡ length s → fields_at s from ≡ drop from s ∷ []
   pub more : r < length s → fields_at s from ≡ take (r - from) (drop from s) ∷ fields_at s (suc r)
 
--- the words of fields are the first r of a store
-pub record WordsRead (w : List ℤ) (r : ℕ) (fs : List (List ℕ)) : Type 0 where
-  pub few : r ≤ most_words
-  pub words : take r w ≡ words_of fs
-  pub count : r ≡ length (words_of fs)
+-- the words of fields are the first n of a store
+pub record FirstWords (w : List ℤ) (n : ℕ) (fs : List (List ℕ)) : Type 0 where
+  pub some : 0 < n
+  pub few : n ≤ most_words
+  pub words : take n w ≡ words_of fs
+  pub count : n ≡ length (words_of fs)
+
+-- what was read of fields: their words, or none
+abbrev pub WordsRead : List ℤ → Option ℕ → List (List ℕ) → Type 0
+WordsRead w (Some n) fs = FirstWords w n fs
+WordsRead w None fs = words_of fs ≡ []

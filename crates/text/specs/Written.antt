@@ -8,15 +8,12 @@
 -- parted, one_field         == a tab parts the fields; without one there is one field
 -- digits_nil, fields_nil, words_nil, words-cons == the first steps of the definitions
 -- AllShort, words_again       == the numbers of the texts of words are the words
-use Rattle.std.specs.Prelude.{◌≡◌, refl, Bool, true, false, cond, ◌⊎◌, ℕ, zero, suc, ◌+◌, ◌-◌, ◌*◌, ◌/◌, ◌%◌, ◌^◌, ◌<◌, ◌≤◌, eqb, ℤ, pos, negsuc, nat_abs, length, get_or}
+use Rattle.std.specs.Prelude.{◌≡◌, refl, Bool, true, false, cond, ◌⊎◌, ℕ, zero, suc, ◌+◌, ◌-◌, ◌*◌, ◌/◌, ◌%◌, ◌^◌, ◌<◌, ◌≤◌, eqb, ℤ, pos, negsuc, nat_abs, length, get_or, Option, Some}
 use Rattle.std.proofs.Common.{sym, ap, ◌∙◌, inl, inr, ⊎_elim, pow-suc, mod-lt, div-add-mod', div-lt_iff_lt-mul, arith, lt-ltb, le-ltb, le-leb, ne_eqb, lit<, length-append}
 use mathlib.Core.List.Memᴰ
 use mathlib.Core.List.{List, [], ◌∷◌, ◌++◌, map, append_assoc, append-nil, Memᴰ}
 use Rattle.std.proofs.Math.Nat.{pow-zero}
 use Rattle.algebra.specs.Test.{le_or_lt}
-use Rattle.text.specs.declared.Digits.TheVariants.{Value}
-use Rattle.text.specs.declared.Number.{Number}
-use Rattle.text.specs.declared.Number.TheVariants.{Is}
 use Rattle.text.specs.Fields.{before, fields_of, most_words, most_digits, word_then, words_from, words_of}
 use Rattle.text.specs.Text.{tab, digits_of, magnitude_of, plain_of, negated_of, number_of, decimal_by, decimal, word_text}
 
@@ -98,7 +95,7 @@ behind_sign : (most : ℕ) (s : List ℕ) → number_of most (45 ∷ s) ≡ nega
 unfolding number_of
 behind_sign most s = refl
 
-pub digits_nil : (m : ℕ) → digits_of m [] ≡ Value m
+pub digits_nil : (m : ℕ) → digits_of m [] ≡ Some m
 unfolding digits_of
 digits_nil m = refl
 
@@ -123,7 +120,7 @@ first_byte : (s : List ℕ) → 0 < length s → Memᴰ (get_or s 0 0) s
 first_byte [] h = absurd (omega arith)
 first_byte (b ∷ s) h = Memᴰ.head refl
 
-magnitude_again : (j n : ℕ) → n < 10 ^ suc j → n < 2 ^ 64 → magnitude_of (suc j) (decimal n) ≡ Value n
+magnitude_again : (j n : ℕ) → n < 10 ^ suc j → n < 2 ^ 64 → magnitude_of (suc j) (decimal n) ≡ Some n
 magnitude_again j n h l =
     all_of (suc j) (decimal n) (some_digit n) (few_digits j n h)
     ∙ ap (digits_of 0) (sym (append-nil (decimal n)))
@@ -134,7 +131,7 @@ no_minus : (n : ℕ) → get_or (decimal n) 0 0 ≡ 45 → ⊥
 no_minus n e = omega (arith, digit_byte 20 n (get_or (decimal n) 0 0) (first_byte (decimal n) (some_digit n)))
 
 -- read with room for at least as many digits as are needed
-read_by : (j : ℕ) (w : ℤ) → nat_abs w < 10 ^ suc j → nat_abs w < 2 ^ 63 → number_of (suc j) (word_text w) ≡ Is w
+read_by : (j : ℕ) (w : ℤ) → nat_abs w < 10 ^ suc j → nat_abs w < 2 ^ 63 → number_of (suc j) (word_text w) ≡ Some w
 read_by j (pos n) h l =
     sym (without_sign (suc j) (decimal n) (some_digit n) (no_minus n))
     ∙ ap plain_of (magnitude_again j n h (omega arith))
@@ -153,7 +150,7 @@ pub short_text : (w : ℤ) → Short w → length (word_text w) ≤ 11
 short_text (pos n) h = omega (arith, few_digits 9 n h)
 short_text (negsuc n) h = omega (arith, few_digits 9 (suc n) h)
 
-pub read_again : (w : ℤ) → Short w → number_of most_digits (word_text w) ≡ Is w
+pub read_again : (w : ℤ) → Short w → number_of most_digits (word_text w) ≡ Some w
 read_again w h = read_by 9 w h (omega arith)
 
 -- ---- the fields of a line
@@ -211,7 +208,7 @@ words_behind : (w l : List ℤ) → AllShort l → length w + length l ≤ most_
 words_behind w [] h k = words_nil w ∙ sym (append-nil w)
 words_behind w (a ∷ l) h k =
     words-cons w (word_text a) (map word_text l)
-    ∙ ap (λ (r : Number). word_then r w (λ more. words_from more (map word_text l))) (read_again a h.0)
+    ∙ ap (λ (r : Option ℤ). word_then r w (λ more. words_from more (map word_text l))) (read_again a h.0)
     ∙ rw (lt-ltb (length w) most_words (omega arith))
     (words_behind (w ++ (a ∷ [])) l h.1 (omega (arith, length-append w (a ∷ []))) ∙ append_assoc w (a ∷ []) l)
 

@@ -1,4 +1,6 @@
 // Text gathered in a store of bytes: each function takes how many bytes of the store are held and gives how many are held after it.
+//
+// Stays: the number goes beside the bytes. A struct that lends them was tried: each contract then has a second clause, that it lends the same bytes as before.
 ghost use Rattle.std.specs.Prelude.{◌+◌, ◌≤◌, ◌∷◌, length};
 ghost use Rattle.text.specs.Appending.{Appended};
 ghost use Rattle.text.specs.Text.{tab, decimal, word_text};
@@ -10,13 +12,9 @@ pub fn append(out: &mut [u8], held: usize, text: &[u8]) -> usize
     requires { held + length text.now ≤ length out.old }
     ensures { Appended held text.now out.old out.new result }
 {
-    let n = text.len();
-    let mut i: usize = 0;
-    while i < n {
-        out[held + i] = text[i];
-        i += 1;
-    }
-    held + n
+    let end = held + text.len();
+    out[held..end].copy_from_slice(text);
+    end
 }
 
 // The digits of n.
@@ -45,7 +43,8 @@ pub fn append_word(out: &mut [u8], held: usize, w: i64) -> usize
 {
     if w < 0 {
         let signed = append(out, held, b"\t-");
-        return append_digits(out, signed, magnitude(w));
+        append_digits(out, signed, magnitude(w))
+    } else {
+        append_number(out, held, magnitude(w))
     }
-    append_number(out, held, magnitude(w))
 }

@@ -4,7 +4,6 @@ ghost use Rattle.text.specs.Fields.{fields_at, most_bytes, most_words, Ends, Wor
 ghost use Rattle.text.specs.Text.{same_text};
 
 use super::numbers::number_of;
-use crate::Number;
 
 // The most words that a line carries.
 pub const MOST_WORDS: usize = 512;
@@ -16,17 +15,7 @@ pub const MOST_DIGITS: usize = 10;
 pub fn same(a: &[u8], b: &[u8]) -> bool
     ensures { result ≡ same_text a.now b.now }
 {
-    if a.len() != b.len() {
-        return false;
-    }
-    let mut i = 0;
-    while i < a.len() {
-        if a[i] != b[i] {
-            return false;
-        }
-        i += 1;
-    }
-    true
+    a == b
 }
 
 // Where the field that begins at `from` ends: at the next tab, or with the line.
@@ -34,18 +23,16 @@ pub fn field_end(text: &[u8], from: usize) -> usize
     requires { from ≤ length text.now }
     ensures { Ends text.now from result }
 {
-    let mut i = from;
-    while i < text.len() {
+    for i in from..text.len() {
         if text[i] == b'\t' {
             return i;
         }
-        i += 1;
     }
-    i
+    text.len()
 }
 
-// The numbers of the fields from `from` on, into words: how many they are, or 0 where a field is no number or there are too many.
-pub fn read_words(text: &[u8], from: usize, words: &mut [i64]) -> usize
+// The numbers of the fields from `from` on, into words: how many they are, or None where a field is no number or there are too many.
+pub fn read_words(text: &[u8], from: usize, words: &mut [i64]) -> Option<usize>
     requires { ((from ≤ length text.now) × (length text.now ≤ most_bytes)) × (most_words ≤ length words.old) }
     ensures { WordsRead words.new result (fields_at text.now from) }
 {
@@ -53,15 +40,13 @@ pub fn read_words(text: &[u8], from: usize, words: &mut [i64]) -> usize
     let mut n: usize = 0;
     while at <= text.len() {
         let end = field_end(text, at);
-        let Number::Is(w) = number_of(&text[at..end], MOST_DIGITS) else {
-            return 0;
-        };
+        let w = number_of(&text[at..end], MOST_DIGITS)?;
         if MOST_WORDS <= n {
-            return 0;
+            return None;
         }
         words[n] = w;
         n += 1;
         at = end + 1;
     }
-    n
+    Some(n)
 }

@@ -6,17 +6,3 @@ pub mod bytes;
 pub mod fields;
 pub mod numbers;
 pub mod streams;
-
-// The number that digits hold.
-#[derive(Clone, Copy)]
-pub enum Digits {
-    Value(u64),
-    Wrong,
-}
-
-// A field read as a number.
-#[derive(Clone, Copy)]
-pub enum Number {
-    Is(i64),
-    Not,
-}

@@ -6,8 +6,8 @@ use Prim.Native.Nat.{ℕ, zero, suc, ◌+◌, ◌-◌, ◌*◌, ◌^◌, ◌<◌
 use native.Mathlib.Nat.{lt_irrefl, add-zero, suc-mul, mul-one, mul-le-mul_left}
 use native.Mathlib.Numerals.{add-one, sub-one}
 use native.Mathlib.Omega.{arith}
-use lib.IntN.{ℤ, pos, negsuc}
-use lib.Dec.{T, eqb, eqb→eq, eqb-suc-suc, eqb-zero-suc}
+use lib.IntN.{ℤ, pos}
+use lib.Dec.{T, eqb, eqb→eq}
 use lib.ListN.{length, get_or, take, drop, length-drop, length-append, take-append-drop}
 use lib.Seq.{drop-drop, get_or-drop}
 use borrow.Author.Tests.{eq-eqb}
@@ -18,7 +18,7 @@ use Rattle.tower.specs.Form.{eq_z, same, seg, one_words, is_in_form, modulus_ove
 use Rattle.tower.specs.Heads.{one_head, one_head-zero, one_head_suc, one_head_lem}
 use Rattle.tower.specs.Lists.{of_true, seg_long, seg-seg, seg-at}
 use Rattle.tower.specs.Ready.{Small}
-use Rattle.tower.specs.Writing.{size, size-zero, size_suc, modulus_size, tower_size, tower_size_suc, count_of, size-pos}
+use Rattle.tower.specs.Writing.{size, size-zero, size_suc, modulus_size, tower_size, tower_size_suc, size-pos}
 
 -- ---- the one
 module _ (x : List ℤ) (a : ℕ) where
@@ -39,10 +39,6 @@ module _ (x : List ℤ) (a : ℕ) where
   pub one_up : (i : ℕ) → (i ≡ 0 → ⊥) → (r q : Bool) → r ≡ eq_z (get_or x a (pos 0)) (pos 0) → r ≡ true → q ≡ one_head (i - 1) (drop (a + 1) x) → q ≡ one_head i (drop a x)
   one_up zero ne r q e h k = absurd (ne refl)
   one_up (suc i) ne r q e h k = (rw (sub-one (suc i)) at k) ∙ and_true_l (eq_z (get_or x a (pos 0)) (pos 0)) _ (sym e ∙ h) ∙ sym (one_split i)
-
-pub degree-number : (g : ℤ) (n c : ℕ) → c ≡ count_of g → eqb c (n + 1) ≡ eq_z g (pos n)
-degree-number (pos m) n c e = rw (e, add-one n) (eqb-suc-suc m n)
-degree-number (negsuc m) n c e = rw (e, add-one n) (eqb-zero-suc n)
 
 -- ---- a modulus at a
 abbrev pub element_at : ℕ → List ℕ → ℕ → List ℤ → ℕ → ℕ → Bool
@@ -71,9 +67,6 @@ pub record Left (p : ℕ) (d : List ℕ) (n : ℕ) (t : List ℤ) (a i : ℕ) : 
   pub fits : a + tower_size d i ≡ length t
   pub same : tower_form p d n t ≡ tower_form p d i (drop a t)
 
-pub left-all : (p : ℕ) (d : List ℕ) (n : ℕ) (t : List ℤ) → length t ≡ tower_size d n → Left p d n t 0 n
-left-all p d n t h = record { fits = omega arith; same = refl }
-
 pub left-none : (p : ℕ) (d : List ℕ) (n : ℕ) (t : List ℤ) (a i : ℕ) → i ≤ 0 → Left p d n t a i → true ≡ tower_form p d n t
 unfolding tower_form tower_size
 left-none p d n t a zero l h =
@@ -86,6 +79,14 @@ pub tower_over : (d : List ℕ) (i : ℕ) → i ≤ tower_size d i
 unfolding tower_size
 tower_over d zero = omega arith
 tower_over d (suc i) = omega (arith, tower_over d i, size-pos d (suc i), size-pos d i)
+
+-- m_(j+1) stands at a: its degree is m, its coefficients have s words, and there are at least j words behind it
+pub record Level (d : List ℕ) (t : List ℤ) (a j m s : ℕ) : Type 0 where
+  pub degree : m ≡ get_or d j 0
+  pub sized : s ≡ size d j
+  pub some : 0 < s
+  pub few : m ≤ m * s
+  pub fits : a + 1 + m * s + s + j ≤ length t
 
 module _ (p : ℕ) (d : List ℕ) (n : ℕ) (t : List ℤ) (a i j : ℕ) (e : suc j ≡ i) (left : Left p d n t a i) where
   pub inside : a + modulus_size d j + tower_size d j ≡ length t
@@ -102,18 +103,24 @@ module _ (p : ℕ) (d : List ℕ) (n : ℕ) (t : List ℤ) (a i j : ℕ) (e : su
   bad : modulus_form p d j (seg a (modulus_size d j) t) ≡ false → false ≡ tower_form p d n t
   bad h = and_false_l (modulus_form p d j (seg a (modulus_size d j) t)) _ h ∙ sym split
 
-  pub bad_degree : (r : Bool) (m : ℕ) → m ≡ get_or d j 0 → r ≡ eq_z (get_or t a (pos 0)) (pos m) → r ≡ false → false ≡ tower_form p d n t
-  bad_degree r m em er h = bad (is ∙ sym (and_false_l (eq_z (get_or t a (pos 0)) (pos (get_or d j 0))) _ (ap (λ k. eq_z (get_or t a (pos 0)) (pos k)) (sym em) ∙ sym er ∙ h)))
+  pub bad_degree : {m : ℕ} (r : Bool) → m ≡ get_or d j 0 → r ≡ eq_z (get_or t a (pos 0)) (pos m) → r ≡ false → false ≡ tower_form p d n t
+  bad_degree {m} r em er h = bad (is ∙ sym (and_false_l (eq_z (get_or t a (pos 0)) (pos (get_or d j 0))) _ (ap (λ k. eq_z (get_or t a (pos 0)) (pos k)) (sym em) ∙ sym er ∙ h)))
 
-  pub bad_element : (r : Bool) (k b : ℕ) → k ≤ get_or d j 0 → b ≡ a + 1 + k * size d j → r ≡ is_in_form p d j (seg b (size d j) t) → r ≡ false → false ≡ tower_form p d n t
-  bad_element r k b l eb er h =
+  pub bad_element : {m s : ℕ} (v : Level d t a j m s) (r : Bool) (k b : ℕ) → k < m + 1 → b ≡ a + 1 + k * s → r ≡ is_in_form p d j (seg b (size d j) t) → r ≡ false
+      → false ≡ tower_form p d n t
+  bad_element v r k b l es er h =
+      let eb : b ≡ a + 1 + k * size d j = rw v.sized at es in
       let f : element_at p d j t a k ≡ false = ap (λ (q : ℕ). is_in_form p d j (seg q (size d j) t)) (sym eb) ∙ sym er ∙ h in
-      let g = sym (all_to_bad (suc (get_or d j 0)) (element_at p d j t a) k (omega arith) f) in
+      let g = sym (all_to_bad (suc (get_or d j 0)) (element_at p d j t a) k (omega (arith, v.degree)) f) in
       bad (is ∙ sym (and_false_r (eq_z (get_or t a (pos 0)) (pos (get_or d j 0))) _ (sym (and_false_l (all_to (suc (get_or d j 0)) (element_at p d j t a)) _ g))))
 
-  module _ (k : ℕ) (past : get_or d j 0 < k) (low : k ≤ get_or d j 0 + 1) (passed : all_to k (element_at p d j t a) ≡ true) (b : ℕ) (eb : b ≡ a + 1 + get_or d j 0 * size d j) (r : Bool) (er : r ≡ one_head j (drop b t)) where
+  module _ {m s : ℕ} (v : Level d t a j m s) (k : ℕ) (past : m + 1 ≤ k) (low : k ≤ m + 1) (passed : all_to k (element_at p d j t a) ≡ true)
+      (b : ℕ) (es : b ≡ a + 1 + m * s) (r : Bool) (er : r ≡ one_head j (drop b t)) where
+    eb : b ≡ a + 1 + get_or d j 0 * size d j
+    eb = es ∙ ap₂ (λ (x y : ℕ). a + 1 + x * y) v.degree v.sized
+
     passed-all : all_to (suc (get_or d j 0)) (element_at p d j t a) ≡ true
-    passed-all = let q : k ≡ suc (get_or d j 0) = omega arith in rw q at passed
+    passed-all = let q : k ≡ suc (get_or d j 0) = omega (arith, v.degree) in rw q at passed
 
     last_one : same (seg b (size d j) t) (one_words d j) ≡ r
     last_one =
@@ -135,18 +142,31 @@ module _ (p : ℕ) (d : List ℕ) (n : ℕ) (t : List ℤ) (a i j : ℕ) (e : su
     bad_one h =
         bad (is ∙ sym (and_false_r (eq_z (get_or t a (pos 0)) (pos (get_or d j 0))) _ (sym (and_false_r (all_to (suc (get_or d j 0)) (element_at p d j t a)) _ (one_block ∙ h)))))
 
-    pub next : (m : ℕ) (q : Bool) → m ≡ get_or d j 0 → q ≡ eq_z (get_or t a (pos 0)) (pos m) → q ≡ true → r ≡ true → (a' : ℕ) → a' ≡ a + 1 + (get_or d j 0 + 1) * size d j → Left p d n t a' j
-    next m q em eq hq hr a' ea =
+    pub next : (q : Bool) → q ≡ eq_z (get_or t a (pos 0)) (pos m) → q ≡ true → r ≡ true → (a' : ℕ) → a' ≡ a + 1 + (m + 1) * s → Left p d n t a' j
+    next q eq hq hr a' es' =
+        let ea : a' ≡ a + 1 + (get_or d j 0 + 1) * size d j = es' ∙ ap₂ (λ (x y : ℕ). a + 1 + (x + 1) * y) v.degree v.sized in
         let z : a' ≡ a + modulus_size d j = omega (arith, modulus-size d j, ap (λ (y : ℕ). y * size d j) (add-one (get_or d j 0)), suc-mul (get_or d j 0) (size d j)) in
-        let good : modulus_form p d j (seg a (modulus_size d j) t) ≡ true = is ∙ ap₂ ◌&&◌ (ap (λ k. eq_z (get_or t a (pos 0)) (pos k)) (sym em) ∙ sym eq ∙ hq) (ap₂ ◌&&◌ passed-all (one_block ∙ hr)) in
+        let good : modulus_form p d j (seg a (modulus_size d j) t) ≡ true = is ∙ ap₂ ◌&&◌ (ap (λ k. eq_z (get_or t a (pos 0)) (pos k)) (sym v.degree) ∙ sym eq ∙ hq) (ap₂ ◌&&◌ passed-all (one_block ∙ hr)) in
         let f = inside in
         record {
           fits = omega arith;
           same = split ∙ ap (λ x. x && tower_form p d j (drop (a + modulus_size d j) t)) good ∙ ap (λ (y : ℕ). tower_form p d j (drop y t)) (sym z);
         }
 
-pub under : (n s : ℕ) → 0 < s → n ≤ n * s
+under : (n s : ℕ) → 0 < s → n ≤ n * s
 under n s h = rw (mul-one n) at (mul-le-mul_left n h)
+
+pub level : {p : ℕ} {d : List ℕ} {n : ℕ} {t : List ℤ} {a i j m s : ℕ} → Left p d n t a i → m ≡ get_or d j 0 → s ≡ size d j → suc j ≡ i → Level d t a j m s
+level {p} {d} {n} {t} {a} {i} {j} {m} {s} left em es e =
+    let some : 0 < s = omega (arith, size-pos d j) in
+    let words : m * s ≡ get_or d j 0 * size d j = ap₂ ◌*◌ em es in
+    record {
+      degree = em;
+      sized = es;
+      some = some;
+      few = under m s some;
+      fits = omega (arith, inside p d n t a i j e left, modulus-size d j, tower_over d j);
+    }
 
 -- ---- lengths
 modulus-length : (n s : ℕ) (one : List ℤ) (good : List ℤ → Bool) (w : List ℤ) → T (modulus_over n s one good w) → length w ≡ n * s + 1 + s
@@ -194,19 +214,9 @@ size_bound d h k l = go k l
     go (suc (suc (suc (suc zero)))) l = omega (arith, s4)
     go (suc (suc (suc (suc (suc k))))) l = absurd (lt_irrefl 0 (omega arith))
 
-pub tower_bound : (d : List ℕ) → Small d → (k : ℕ) → k ≤ 4 → tower_size d k ≤ k * 2 ^ 33
-unfolding tower_size
-tower_bound d h zero l = omega arith
-tower_bound d h (suc k) l = omega (arith, tower_bound d h k (omega arith), size_bound d h (suc k) l, size_bound d h k (omega arith))
-
 pub tower-none : (d : List ℕ) → 0 ≡ tower_size d 0
 unfolding tower_size
 tower-none d = refl
-
-pub tower-step : (d : List ℕ) (i u s r : ℕ) → u ≡ size d (i + 1) → s ≡ size d i → r ≡ tower_size d i → u + s + r ≡ tower_size d (i + 1)
-tower-step d i u s r eu es er =
-    let a : u ≡ size d (suc i) = rw (add-one i) at eu in
-    rw (add-one i) (omega (arith, tower_size_suc d i))
 
 pub size-next : (d : List ℕ) (i s g u : ℕ) → s ≡ size d i → g ≡ get_or d i 0 → u ≡ g * s + 1 → u ≡ size d (i + 1)
 size-next d i s g u es eg eu = eu ∙ ap₂ (λ (x y : ℕ). x * y + 1) eg es ∙ sym (size_suc d i) ∙ ap (size d) (sym (add-one i))

@@ -1,19 +1,18 @@
--- Laws of what is written into the store: one copy more, one word more; the zero and the one of a level, and that their parts are inside.
-use Prim.Native.Nat.{ℕ, zero, suc, ◌+◌, ◌-◌, ◌*◌, ◌<◌, ◌≤◌}
+-- Laws of what is written into the store: one copy more; the zero and the one of a level, and that their parts are inside.
+use Prim.Native.Nat.{ℕ, zero, suc, ◌+◌, ◌-◌, ◌*◌}
 use mathlib.Core.Path.{◌≡◌, refl, sym, ap, ◌∙◌, subst}
-use mathlib.Core.Logic.{inl, inr}
 use mathlib.Core.List.{List, [], ◌∷◌, ◌++◌, append_assoc, append-nil}
 use native.Mathlib.Nat.{lt_irrefl, suc-mul}
 use native.Mathlib.Numerals.{add-one, sub-one}
 use native.Mathlib.Omega.{arith}
 use lib.IntN.{ℤ, pos, negsuc}
-use lib.ListN.{length, get_or, drop, length-drop}
-use lib.Seq.{take-suc, get_or-drop}
-use Rattle.tower.specs.Form.{seg, copies, zero_words, one_words}
-use Rattle.tower.specs.Lists.{seg_long, copies_long}
+use lib.ListN.{length, get_or}
+use Rattle.std.specs.Prelude.{replicate}
+use Rattle.tower.specs.Form.{copies, zero_words, one_words}
+use Rattle.tower.specs.Lists.{copies_long}
 use Rattle.tower.specs.Ready.{Element, Positive, Run}
 use Rattle.tower.specs.Stands.{one_long}
-use Rattle.tower.specs.Store.{Put, Apart, put-append}
+use Rattle.tower.specs.Store.{Put, put-append}
 use Rattle.tower.specs.Writing.{size}
 use Rattle.tower.proofs.Laws.{row}
 use Rattle.tower.proofs.Rows.{size_down}
@@ -22,8 +21,10 @@ copies_more : (n : ℕ) (l : List ℤ) → copies (suc n) l ≡ copies n l ++ l
 copies_more zero l = append-nil l
 copies_more (suc n) l = ap (λ t. l ++ t) (copies_more n l) ∙ sym (append_assoc l (copies n l) l)
 
-seg_more : (a k : ℕ) (x : List ℤ) → a + k < length x → seg a (suc k) x ≡ seg a k x ++ (get_or x (a + k) (pos 0) ∷ [])
-seg_more a k x h = take-suc (drop a x) k (pos 0) (omega (arith, length-drop a x)) ∙ ap (λ g. seg a k x ++ (g ∷ [])) (get_or-drop a x k (pos 0))
+-- n copies of one word
+pub copies_word : (n : ℕ) (g : ℤ) → copies n (g ∷ []) ≡ replicate n g
+copies_word zero g = refl
+copies_word (suc n) g = ap (λ t. g ∷ t) (copies_word n g)
 
 -- one copy more of l, behind k of them
 pub next-copy : {a b : ℕ} {u v w : List ℤ} (k s : ℕ) (l : List ℤ) → length l ≡ s → b ≡ a + k * s
@@ -31,28 +32,8 @@ pub next-copy : {a b : ℕ} {u v w : List ℤ} (k s : ℕ) (l : List ℤ) → le
 next-copy {a} {b} {u} {v} {w} k s l e h p q =
     subst (λ m. Put a m u w) (sym (copies_more k l) ∙ ap (λ n. copies n l) (sym (add-one k))) (put-append (omega (arith, copies_long k s l e)) p q)
 
--- one word more of x, behind k of them
-pub next_word : {a b : ℕ} {u v w : List ℤ} {g : ℤ} (f k : ℕ) (x : List ℤ) → f + k < length x → b ≡ a + k → g ≡ get_or x (f + k) (pos 0)
-    → Put a (seg f k x) u v → Put b (g ∷ []) v w → Put a (seg f (k + 1) x) u w
-next_word {a} {b} {u} {v} {w} {g} f k x l h e p q =
-    let more : seg f k x ++ (g ∷ []) ≡ seg f (k + 1) x = ap (λ y. seg f k x ++ (y ∷ [])) e ∙ sym (seg_more f k x l) ∙ ap (λ n. seg f n x) (sym (add-one k)) in
-    subst (λ m. Put a m u w) more (put-append (omega (arith, seg_long f k x (omega arith))) p q)
-
--- a copy has not yet changed the word that it comes to
-pub not_yet : {a f n : ℕ} {u v : List ℤ} (k : ℕ) → k < n → f + n ≤ length u → Apart a f n → Put a (seg f k u) u v
-    → get_or v (f + k) (pos 0) ≡ get_or u (f + k) (pos 0)
-not_yet {a} {f} {n} {u} k l h (inl s) p = p.kept.above (f + k) (omega (arith, seg_long f k u (omega arith)))
-not_yet {a} {f} {n} {u} k l h (inr s) p = p.kept.below (f + k) (omega arith)
-
 -- ---- elements
 module _ {i : ℕ} {d z : List ℕ} {x : List ℤ} {a : ℕ} (y : List ℤ) (e : length y ≡ length x) where
-  -- the k-th of n elements
-  pub each_fits : {n : ℕ} → Run i n d z x a → (k s : ℕ) → k < n → s ≡ get_or z i 0 → Element i d z y (a + k * s)
-  each_fits {n} r k s l h =
-      let es : s ≡ size d i = h ∙ r.sized.at i r.low in
-      let ek : k * s ≡ k * size d i = ap (λ (m : ℕ). k * m) es in
-      record { low = r.low; sized = r.sized; inside = omega (arith, r.inside, row k n (size d i) l) }
-
   -- the coefficients behind a degree word
   pub all_fit : (i ≡ 0 → ⊥) → Element i d z x a → (n : ℕ) → n ≡ get_or d (i - 1) 0 → Run (i - 1) n d z y (a + 1)
   all_fit ne r n h =

@@ -2,8 +2,9 @@
 --
 -- room d i c      == P(c - 1, i): the words of c coefficients of level i and a degree word
 -- product_work    == M;  inverse_work == I;  gcd_work == the GCD's number, from one more than the two degrees
+-- AddsUp == a sum over the levels of a tower
 -- product≤inverse == M(n) ≤ I(n), for any degrees;  inverse_work_grows == what a level needs, those above it have
-use Rattle.std.specs.Prelude.{◌≡◌, refl, List, ℕ, zero, suc, ◌+◌, ◌-◌, ◌*◌, ◌≤◌}
+use Rattle.std.specs.Prelude.{◌≡◌, refl, List, ℕ, zero, suc, ◌+◌, ◌-◌, ◌*◌, ◌<◌, ◌≤◌}
 use Rattle.std.proofs.Common.{mul-le-mul_right, arith}
 use Rattle.tower.specs.Levels.{degree}
 use Rattle.tower.specs.Writing.{size}
@@ -25,6 +26,11 @@ inverse_work d (suc i) = 5 * room d i (degree d i + 1) + inverse_work d i
 -- "P(deg a, N) + P(deg b, N) + 2·S_N + I(N), a zero polynomial counting as degree -1"
 unfoldable pub gcd_work : List ℕ → ℕ → ℕ → ℕ → ℕ
 gcd_work d n ca cb = room d n ca + room d n cb + 2 * size d n + inverse_work d n
+
+-- sum adds up what `gives` says of the degree of a level and the size of the elements below it
+pub record AddsUp (gives : ℕ → ℕ → ℕ → Type 0) (d : List ℕ) (n : ℕ) (sum : ℕ → ℕ) : Type 0 where
+  pub none : sum 0 ≡ 0
+  pub more : (i r : ℕ) → i < n → gives (degree d i) (size d i) r → sum (suc i) ≡ r + sum i
 
 pub product_work_suc : (d : List ℕ) (i : ℕ) → product_work d (suc i) ≡ 2 * room d i (2 * degree d i - 2 + 1) + product_work d i
 unfolding product_work

@@ -7,18 +7,15 @@ ghost use Rattle.tower.specs.Ready.{Element, Row, Whole};
 
 use super::sizes::{degree_at, size_at};
 use super::store::is_zero;
-use super::words::{count, count_at, same_word, word_at};
+use super::words::{count, count_at};
 
 // The word at a place is from 0 to p - 1.
 pub fn residue(x: &[i64], a: usize, p: u64) -> bool
     requires { a < length x.now }
     ensures { result ≡ residue_ok p (get_or x.now a (pos 0)) }
 {
-    let g = word_at(x, a);
-    if g < 0 {
-        return false;
-    }
-    (g as u64) < p
+    let g = x[a];
+    0 <= g && (g as u64) < p
 }
 
 // The word at a place is a degree from -1 to n - 1.
@@ -26,11 +23,8 @@ pub fn degree_ok(x: &[i64], a: usize, n: usize) -> bool
     requires { a < length x.now }
     ensures { result ≡ degree_ok n (get_or x.now a (pos 0)) }
 {
-    let g = word_at(x, a);
-    if g < -1 {
-        return false;
-    }
-    count(g) <= n
+    let g = x[a];
+    -1 <= g && count(g) <= n
 }
 
 // The k-th coefficient fits a degree word that counts c: the last of them is not zero, those behind it are.
@@ -38,13 +32,7 @@ pub fn fits_degree(c: usize, k: usize, zero: bool) -> bool
     requires { k + 1 < 2 ^ 64 }
     ensures { result ≡ place_ok c k zero }
 {
-    if k + 1 == c {
-        return !zero;
-    }
-    if c <= k {
-        return zero;
-    }
-    true
+    if k + 1 == c { !zero } else { k < c || zero }
 }
 
 // Where the k-th coefficient of s words stands behind the degree word at a.
@@ -62,9 +50,10 @@ pub fn element(i: usize, d: [usize; 4], z: [usize; 5], p: u64, x: &[i64], a: usi
     ensures { result ≡ is_in_form p d i (seg a (size d i) x.now) }
 {
     if i == 0 {
-        return residue(x, a, p);
+        residue(x, a, p)
+    } else {
+        row(i - 1, degree_at(d, i - 1), d, z, p, x, a)
     }
-    row(i - 1, degree_at(d, i - 1), d, z, p, x, a)
 }
 
 // The words from a on are a degree word and n coefficients of level i, in form.
@@ -78,8 +67,7 @@ pub fn row(i: usize, n: usize, d: [usize; 4], z: [usize; 5], p: u64, x: &[i64], 
     }
     let c = count_at(x, a);
     let s = size_at(z, i);
-    let mut k: usize = 0;
-    while k < n {
+    for k in 0..n {
         let b = coefficient_at(a, k, s);
         if !element(i, d, z, p, x, b) {
             return false;
@@ -87,7 +75,6 @@ pub fn row(i: usize, n: usize, d: [usize; 4], z: [usize; 5], p: u64, x: &[i64], 
         if !fits_degree(c, k, is_zero(i, x, b)) {
             return false;
         }
-        k += 1;
     }
     true
 }
@@ -106,12 +93,10 @@ pub fn one_at(i: usize, x: &[i64], a: usize) -> bool
     ensures { result ≡ one_head i (drop a x.now) }
 {
     if i == 0 {
-        return same_word(word_at(x, a), 1);
+        x[a] == 1
+    } else {
+        x[a] == 0 && one_at(i - 1, x, a + 1)
     }
-    if !same_word(word_at(x, a), 0) {
-        return false;
-    }
-    one_at(i - 1, x, a + 1)
 }
 
 // The words are those of a tower: for each level from the highest, its degree word, d_i + 1 coefficients in form, the last of them 1.
@@ -119,30 +104,27 @@ pub fn tower(n: usize, d: [usize; 4], z: [usize; 5], p: u64, t: &[i64]) -> bool
     requires { Whole n d z t.now }
     ensures { result ≡ tower_form p d n t.now }
 {
+    // Stays: `ok` and the label, as document 01 binds that the check leaves the outer loop by a label at the first bad word.
     let mut ok = true;
     let mut a: usize = 0;
-    let mut i = n;
-    'levels: while 0 < i {
-        let m = degree_at(d, i - 1);
-        let s = size_at(z, i - 1);
+    'levels: for i in (0..n).rev() {
+        let m = degree_at(d, i);
+        let s = size_at(z, i);
         if !degree_is(t, a, m) {
             ok = false;
             break 'levels;
         }
-        let mut k: usize = 0;
-        while k <= m {
-            if !element(i - 1, d, z, p, t, coefficient_at(a, k, s)) {
+        for k in 0..m + 1 {
+            if !element(i, d, z, p, t, coefficient_at(a, k, s)) {
                 ok = false;
                 break 'levels;
             }
-            k += 1;
         }
-        if !one_at(i - 1, t, coefficient_at(a, m, s)) {
+        if !one_at(i, t, coefficient_at(a, m, s)) {
             ok = false;
             break 'levels;
         }
         a = coefficient_at(a, m + 1, s);
-        i -= 1;
     }
     ok
 }

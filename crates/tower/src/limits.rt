@@ -2,54 +2,32 @@
 ghost use Rattle.std.specs.Prelude.{◌≡◌, ◌<◌};
 ghost use Rattle.tower.specs.Limits.{p_ok, levels_ok, degree_in, degrees_ok, slot_length, work_degree};
 
-use super::words::same_word;
-
 // p is from 2 to 2,147,483,647.
 pub fn p_ok(p: i64) -> bool
     ensures { result ≡ p_ok p }
 {
-    if p < 2 {
-        return false;
-    }
-    p <= 2147483647
+    (2..=2147483647).contains(&p)
 }
 
 // N is from 0 to 4.
 pub fn levels_ok(n: i64) -> bool
     ensures { result ≡ levels_ok n }
 {
-    if n < 0 {
-        return false;
-    }
-    n <= 4
+    (0..=4).contains(&n)
 }
 
 // The degree of a level in use is from 2 to 64, every other is 0.
 pub fn degree_in(below: bool, g: i64) -> bool
     ensures { result ≡ degree_in below g }
 {
-    if !below {
-        return same_word(g, 0);
-    }
-    if g < 2 {
-        return false;
-    }
-    g <= 64
+    if below { (2..=64).contains(&g) } else { g == 0 }
 }
 
 // The four degrees are those of n levels.
 pub fn degrees_ok(n: usize, e: [i64; 4]) -> bool
     ensures { result ≡ degrees_ok n e }
 {
-    let mut k: usize = 0;
-    while k < 4 {
-        let g = e[k];
-        if !degree_in(k < n, g) {
-            return false;
-        }
-        k += 1;
-    }
-    true
+    e.iter().enumerate().all(|(k, g)| degree_in(k < n, *g))
 }
 
 // A slot of l words has from 1 to 256 coefficients of s words behind its degree word, and no more than 65,536 words.
@@ -57,28 +35,12 @@ pub fn slot_length(s: usize, l: usize) -> bool
     requires { 0 < s }
     ensures { result ≡ slot_length s l }
 {
-    if l == 0 {
-        return false;
-    }
-    let k = (l - 1) / s;
-    if (l - 1) % s != 0 {
-        return false;
-    }
-    if k < 1 {
-        return false;
-    }
-    if 256 < k {
-        return false;
-    }
-    l <= 65536
+    l != 0 && (l - 1) % s == 0 && (1..=256).contains(&((l - 1) / s)) && l <= 65536
 }
 
 // A degree that the work sizes take: from -1 to 255.
 pub fn work_degree(g: i64) -> bool
     ensures { result ≡ work_degree g }
 {
-    if g < -1 {
-        return false;
-    }
-    g <= 255
+    (-1..=255).contains(&g)
 }

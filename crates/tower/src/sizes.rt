@@ -1,6 +1,7 @@
-// The degrees of a tower and the sizes S_0 to S_4 of its elements.
-ghost use Rattle.std.specs.Prelude.{◌≡◌, ◌+◌, ◌*◌, ◌^◌, ◌<◌, ◌≤◌, get_or};
-ghost use Rattle.tower.specs.Writing.{tower_size};
+// The degrees of a tower, the sizes S_0 to S_4 of its elements, and what its levels need together.
+ghost use Rattle.std.specs.Prelude.{◌≡◌, ℕ, ◌+◌, ◌*◌, ◌^◌, ◌<◌, ◌≤◌, get_or};
+ghost use Rattle.tower.specs.Work.{AddsUp};
+ghost use Rattle.tower.specs.Writing.{size, tower_size};
 ghost use Rattle.tower.specs.Limits.{degrees_of};
 ghost use Rattle.tower.specs.Ready.{Sized, Small, Levels};
 
@@ -10,19 +11,15 @@ use super::words::nat;
 pub fn degrees(e: [i64; 4]) -> [usize; 4]
     ensures { result ≡ degrees_of e }
 {
-    let a = nat(e[0]);
-    let b = nat(e[1]);
-    let c = nat(e[2]);
-    let d = nat(e[3]);
-    [a, b, c, d]
+    e.map(nat)
 }
 
-// The size of an element whose level has degree d over elements of size s.
-pub fn next(d: usize, s: usize) -> usize
-    requires { (d ≤ 64) × (s < 2 ^ 40) }
-    ensures { (result ≡ d * s + 1) × (result ≤ 64 * s + 1) }
+// The words of c coefficients of s words behind their degree word.
+pub fn room(c: usize, s: usize) -> usize
+    requires { (c ≤ 256) × (s < 2 ^ 40) }
+    ensures { (result ≡ c * s + 1) × (result ≤ 256 * s + 1) }
 {
-    d * s + 1
+    c * s + 1
 }
 
 // S_0 to S_4.
@@ -30,10 +27,10 @@ pub fn sizes(d: [usize; 4]) -> [usize; 5]
     requires { Small d }
     ensures { Sized d result }
 {
-    let a = next(d[0], 1);
-    let b = next(d[1], a);
-    let c = next(d[2], b);
-    let e = next(d[3], c);
+    let a = room(d[0], 1);
+    let b = room(d[1], a);
+    let c = room(d[2], b);
+    let e = room(d[3], c);
     [1, a, b, c, e]
 }
 
@@ -53,19 +50,28 @@ pub fn degree_at(d: [usize; 4], i: usize) -> usize
     d[i]
 }
 
+// What `words` gives for the degree of a level and the size of the elements below it, added up over n levels.
+pub fn over_levels<F: Fn(usize, usize) -> usize>(n: usize, d: [usize; 4], words: F) -> usize
+    requires levels { Levels n d }
+    requires callable { (i : ℕ) → i < n → F.pre words (get_or d i 0) (size d i) }
+    requires few { (i r : ℕ) → i < n → F.post words (get_or d i 0) (size d i) r → r ≤ 2 ^ 58 }
+    ensures sum { (sum : ℕ → ℕ) → AddsUp (F.post words) d n sum → result ≡ sum n }
+    ensures few { result ≤ n * 2 ^ 58 }
+{
+    let mut r: usize = 0;
+    let mut s: usize = 1;
+    for i in 0..n {
+        let g = degree_at(d, i);
+        r += words(g, s);
+        s = room(g, s);
+    }
+    r
+}
+
 // The words of a tower: each level has its degree word and d_i + 1 coefficients.
 pub fn tower_size(n: usize, d: [usize; 4]) -> usize
     requires { Levels n d }
     ensures { result ≡ tower_size d n }
 {
-    let mut r: usize = 0;
-    let mut s: usize = 1;
-    let mut i: usize = 0;
-    while i < n {
-        let u = next(degree_at(d, i), s);
-        r = u + s + r;
-        s = u;
-        i += 1;
-    }
-    r
+    over_levels(n, d, |g, s| room(g + 1, s))
 }

@@ -1,6 +1,8 @@
 // The small tools of the store, one list of words in which everything has its place: words put, cleared and copied, the zero and the one of a level
 // written, the zero test. What writes says which words, and that all others are as before (`Put` of specs/Store.antt).
 //
+// Stays: words are told by their place in one lent list, as there is no heap, and `Put` and all that stands on it speak of places.
+//
 // The number of coefficients up to the highest that is not zero is `words::count_at`. What it and `is_zero` tell of an element: specs/Stands.antt.
 ghost use Rattle.std.specs.Prelude.{◌≡◌, [], ◌∷◌, ◌+◌, ◌<◌, ◌≤◌, pos, length, get_or};
 ghost use Rattle.tower.specs.Form.{eq_z, seg, copies, zero_words, one_words};
@@ -9,7 +11,6 @@ ghost use Rattle.tower.specs.Ready.{Element, Positive, Run};
 ghost use Rattle.tower.specs.Store.{Put, Apart};
 
 use super::sizes::{degree_at, size_at};
-use super::words::{same_word, word_at};
 
 // One word.
 pub fn put_word(w: &mut [i64], at: usize, g: i64)
@@ -24,11 +25,7 @@ pub fn clear(w: &mut [i64], from: usize, n: usize)
     requires { from + n ≤ length w.old }
     ensures { Put from (copies n (pos 0 ∷ [])) w.old w.new }
 {
-    let mut k: usize = 0;
-    while k < n {
-        put_word(w, from + k, 0);
-        k += 1;
-    }
+    w[from..from + n].fill(0);
 }
 
 // n words from another place of the store.
@@ -36,11 +33,7 @@ pub fn copy(w: &mut [i64], to: usize, from: usize, n: usize)
     requires { ((to + n ≤ length w.old) × (from + n ≤ length w.old)) × Apart to from n }
     ensures { Put to (seg from n w.old) w.old w.new }
 {
-    let mut k: usize = 0;
-    while k < n {
-        put_word(w, to + k, word_at(w, from + k));
-        k += 1;
-    }
+    w.copy_within(from..from + n, to);
 }
 
 // n words from a lent list.
@@ -48,11 +41,7 @@ pub fn copy_in(x: &[i64], from: usize, w: &mut [i64], to: usize, n: usize)
     requires { (from + n ≤ length x.now) × (to + n ≤ length w.old) }
     ensures { Put to (seg from n x.now) w.old w.new }
 {
-    let mut k: usize = 0;
-    while k < n {
-        put_word(w, to + k, word_at(x, from + k));
-        k += 1;
-    }
+    w[to..to + n].copy_from_slice(&x[from..from + n]);
 }
 
 // The zero of level i: a degree word -1, and zeros of the level below.
@@ -76,10 +65,8 @@ pub fn zeros(i: usize, n: usize, d: [usize; 4], z: [usize; 5], w: &mut [i64], at
     ensures { Put at (copies n (zero_words d i)) w.old w.new }
 {
     let s = size_at(z, i);
-    let mut k: usize = 0;
-    while k < n {
+    for k in 0..n {
         zero(i, d, z, w, at + k * s);
-        k += 1;
     }
 }
 
@@ -104,9 +91,5 @@ pub fn is_zero(i: usize, w: &[i64], at: usize) -> bool
     requires { at < length w.now }
     ensures { result ≡ eq_z (get_or w.now at (pos 0)) (head_of i) }
 {
-    let g = word_at(w, at);
-    if i == 0 {
-        return same_word(g, 0);
-    }
-    same_word(g, -1)
+    w[at] == if i == 0 { 0 } else { -1 }
 }

@@ -2,7 +2,6 @@
 ghost use Rattle.std.specs.Prelude.{◌≡◌, ◌<◌, pos, length, get_or};
 ghost use Rattle.residue.specs.Word.{num};
 ghost use Rattle.tower.specs.Writing.{count_of};
-ghost use Rattle.tower.specs.Form.{eq_z};
 
 // The word at a place.
 pub fn word_at(x: &[i64], a: usize) -> i64
@@ -16,27 +15,14 @@ pub fn word_at(x: &[i64], a: usize) -> i64
 pub fn nat(g: i64) -> usize
     ensures { result ≡ num g }
 {
-    if g < 0 {
-        return 0;
-    }
-    g as usize
-}
-
-// Whether two words are equal.
-pub fn same_word(g: i64, h: i64) -> bool
-    ensures { result ≡ eq_z g h }
-{
-    g == h
+    usize::try_from(g).unwrap_or(0)
 }
 
 // The coefficients up to the highest, from a degree word: one more than the degree, 0 for zero.
 pub fn count(g: i64) -> usize
     ensures { result ≡ count_of g }
 {
-    if g < 0 {
-        return 0;
-    }
-    (g as usize) + 1
+    usize::try_from(g).map_or(0, |n| n + 1)
 }
 
 // The same of the degree word at a place.

@@ -3,32 +3,14 @@ ghost use Rattle.std.specs.Prelude.{◌≡◌, ◌+◌, ◌*◌, ◌^◌, ◌<�
 ghost use Rattle.tower.specs.Work.{product_work, inverse_work};
 ghost use Rattle.tower.specs.Ready.{Degrees};
 
-use super::sizes::{degree_at, next};
-
-// The words of a slot of c coefficients of s words.
-pub fn room(c: usize, s: usize) -> usize
-    requires { (c ≤ 256) × (s < 2 ^ 40) }
-    ensures { (result ≡ c * s + 1) × (result ≤ 256 * s + 1) }
-{
-    c * s + 1
-}
+use super::sizes::{over_levels, room};
 
 // M(n).
 pub fn product_work(n: usize, d: [usize; 4]) -> usize
     requires { Degrees n d }
     ensures { result ≡ product_work d n }
 {
-    let mut r: usize = 0;
-    let mut s: usize = 1;
-    let mut i: usize = 0;
-    while i < n {
-        let g = degree_at(d, i);
-        let m = room(2 * g - 2 + 1, s);
-        s = next(g, s);
-        r = 2 * m + r;
-        i += 1;
-    }
-    r
+    over_levels(n, d, |g, s| 2 * room(2 * g - 2 + 1, s))
 }
 
 // I(n).
@@ -36,17 +18,7 @@ pub fn inverse_work(n: usize, d: [usize; 4]) -> usize
     requires { Degrees n d }
     ensures { (result ≡ inverse_work d n) × (result ≤ 2 ^ 60) }
 {
-    let mut r: usize = 0;
-    let mut s: usize = 1;
-    let mut i: usize = 0;
-    while i < n {
-        let g = degree_at(d, i);
-        let m = room(g + 1, s);
-        s = next(g, s);
-        r = 5 * m + r;
-        i += 1;
-    }
-    r
+    over_levels(n, d, |g, s| 5 * room(g + 1, s))
 }
 
 // The GCD's number, for a and b of ca and cb coefficients of s words and an inverse that needs i words.

@@ -1,76 +1,89 @@
-// Text on its way to standard output, gathered in a store of bytes.
-//
-// Each function takes how many bytes of the store are held and gives how many are held after it. A
-// count above the store's length, which none of them gives, is taken as its length, so callers have
-// nothing to show. No contract can say what is written.
-ghost use Rattle.std.specs.Prelude.{◌≤◌};
-
-use residue::magnitude;
-use text::bytes::append;
+// Text on its way to standard output, and how answers and lists are printed. No contract can say
+// what is written.
+use arrayvec::ArrayVec;
+use kernel::Answer;
+use std::fmt::{self, Write};
 use text::streams::STANDARD_OUTPUT;
 
-// How many bytes the store has.
-pub const OUTPUT_BYTES: usize = 65536;
+// The bytes that are gathered before they are written.
+const MOST_HELD: usize = 65536;
 
-// The store.
-pub type Output = [u8; OUTPUT_BYTES];
-
-fn within(held: usize, most: usize) -> usize
-    ensures { result ≤ most }
-{
-    if held < most { held } else { most }
+// The text that has not been written yet.
+#[derive(Drop)]
+pub struct Output {
+    held: ArrayVec<u8, MOST_HELD>,
 }
 
-// Writes what is held.
-pub fn flush(out: &[u8], held: usize) {
-    let n = within(held, out.len());
-    io::write_all(STANDARD_OUTPUT, &out[..n]);
+impl Output {
+    pub fn new() -> Output {
+        Output {
+            held: ArrayVec::new(),
+        }
+    }
+
+    // Writes what is held.
+    pub fn flush(&mut self) {
+        io::write_all(STANDARD_OUTPUT, self.held.as_slice());
+        self.held.clear();
+    }
+
+    // The text and a line end. No write to an output gives an error.
+    pub fn line<D: fmt::Display + Drop>(&mut self, text: D) {
+        let _ = self.writeln(text);
+    }
 }
 
 // The text, after what is held was written where there is no room for both.
-pub fn put(out: &mut Output, held: usize, text: &[u8]) -> usize {
-    let n = within(held, OUTPUT_BYTES);
-    if text.len() <= OUTPUT_BYTES - n {
-        return append(out, n, text);
+impl fmt::Write for Output {
+    fn write_str(&mut self, text: &str) -> fmt::Result {
+        let bytes = text.as_bytes();
+        if self.held.try_extend_from_slice(bytes).is_err() {
+            self.flush();
+            if self.held.try_extend_from_slice(bytes).is_err() {
+                io::write_all(STANDARD_OUTPUT, bytes);
+            }
+        }
+        Ok(())
     }
-    flush(out, n);
-    if text.len() <= OUTPUT_BYTES {
-        return append(out, 0, text);
-    }
-    io::write_all(STANDARD_OUTPUT, text);
-    0
 }
 
-// The digits of n.
-fn put_digits(out: &mut Output, held: usize, n: u64) -> usize {
-    let mut digits = [0u8; 20];
-    let k = io::decimal(n, &mut digits);
-    put(out, held, &digits[..k])
-}
+// An answer of the kernel.
+#[derive(Clone, Copy)]
+pub struct Answered(pub Answer);
 
-// A tab and the digits of n.
-pub fn put_number(out: &mut Output, held: usize, n: u64) -> usize {
-    let parted = put(out, held, b"\t");
-    put_digits(out, parted, n)
-}
-
-// A tab and the word, which may be any of the signed 64 bits.
-pub fn put_word(out: &mut Output, held: usize, w: i64) -> usize {
-    if w < 0 {
-        let signed = put(out, held, b"\t-");
-        return put_digits(out, signed, magnitude(w));
+impl fmt::Display for Answered {
+    fn fmt<W: fmt::Write>(&self, f: &mut fmt::Formatter<W>) -> fmt::Result {
+        match self.0 {
+            Answer::Done => write!(f, "done"),
+            Answer::Factor(level) => write!(f, "factor\t{level}"),
+            Answer::Refused(number) => write!(f, "refused\t{number}"),
+        }
     }
-    put_number(out, held, magnitude(w))
 }
 
-// A list as a line holds it: a tab and the count, then each word behind a tab.
-pub fn put_words(out: &mut Output, held: usize, words: &[i64]) -> usize {
-    let n = words.len();
-    let mut told = put_number(out, held, n as u64);
-    let mut i: usize = 0;
-    while i < n {
-        told = put_word(out, told, words[i]);
-        i += 1;
+// A list as a line holds it: a tab and its count, then each word behind a tab.
+#[derive(Clone, Copy)]
+pub struct List<'a>(pub &'a [i64]);
+
+impl fmt::Display for List<'_> {
+    fn fmt<W: fmt::Write>(&self, f: &mut fmt::Formatter<W>) -> fmt::Result {
+        write!(f, "\t{}", self.0.len())?;
+        for word in self.0 {
+            write!(f, "\t{word}")?;
+        }
+        Ok(())
     }
-    told
+}
+
+// Lists, one behind another.
+#[derive(Clone, Copy)]
+pub struct Lists<'a>(pub &'a [&'a [i64]]);
+
+impl fmt::Display for Lists<'_> {
+    fn fmt<W: fmt::Write>(&self, f: &mut fmt::Formatter<W>) -> fmt::Result {
+        for words in self.0 {
+            write!(f, "{}", List(words))?;
+        }
+        Ok(())
+    }
 }

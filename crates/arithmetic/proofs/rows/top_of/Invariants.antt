@@ -1,9 +1,7 @@
-use Prim.Native.Nat.{◌+◌, ◌≤◌}
+-- `arithmetic::rows::top_of` meets its contract. From k on all are zero. Assumes nothing.
+use Rattle.std.proofs.Common.{◌+◌}
 use Rattle.arithmetic.proofs.Tops.{ZeroFrom}
 use Rattle.arithmetic.proofs.rows.top_of.Given as goal
 
 abbrev pub invariant-loop-k : goal.invariant-loop-k
-invariant-loop-k l = (l.k ≤ l.n) × ZeroFrom l.i l.n l.s l.w (l.at + 1) l.k
-
-abbrev pub decreases-loop-k : goal.decreases-loop-k
-decreases-loop-k l = l.k
+invariant-loop-k l = ZeroFrom l.i l.n l.s l.w (l.at + 1) l.k

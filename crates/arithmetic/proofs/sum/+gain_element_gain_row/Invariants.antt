@@ -1,4 +1,4 @@
-use Prim.Native.Nat.{◌+◌, ◌-◌, ◌*◌, ◌≤◌}
+use Prim.Native.Nat.{◌+◌, ◌*◌}
 use Rattle.arithmetic.proofs.Gains.{Gaining}
 use Rattle.arithmetic.proofs.sum.+gain_element_gain_row.Given as goal
 
@@ -9,7 +9,4 @@ abbrev pub decreases-gain_row : goal.decreases-gain_row
 decreases-gain_row l = 2 * l.i + 1
 
 abbrev pub invariant-gain_row-loop-k : goal.invariant-gain_row-loop-k
-invariant-gain_row-loop-k l = (l.k ≤ l.c) × Gaining l.p l.d l.i l.n l.neg l.x l.a l.initial.w l.at l.k l.w
-
-abbrev pub decreases-gain_row-loop-k : goal.decreases-gain_row-loop-k
-decreases-gain_row-loop-k l = l.c - l.k
+invariant-gain_row-loop-k l = Gaining l.p l.d l.i l.n l.neg l.x l.a l.initial.w l.at l.k l.w

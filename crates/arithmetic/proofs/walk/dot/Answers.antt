@@ -1,11 +1,13 @@
-use Rattle.arithmetic.proofs.Walks.{folded_start, folded_next}
+-- `arithmetic::walk::dot` meets its contract: a box of one way. Assumes nothing.
+use Rattle.arithmetic.proofs.Boxes.{dot-none, dot-ready, dot_end}
+use Rattle.std.proofs.Common.{arith}
 use Rattle.arithmetic.proofs.walk.dot.Goals as goal
 
-pub loop-k-init : goal.loop-k-init
-loop-k-init c = folded_start
+pub returns-then-n-eq0 : goal.returns-then-n-eq0
+returns-then-n-eq0 c = dot-none c.args.x.now c.args.a c.args.y.now c.args.b c.args.n c.args.step c.if-n-eq0.true
 
-pub loop-k-preserved : goal.loop-k-preserved
-loop-k-preserved c =
-    let loop = c.loop-k in
-    let loop-test = c.loop-k-test in
-    folded_next loop.invariant loop-test.true c.product_at.ensures c.fold-r.ensures
+pub add-requires : goal.add-requires
+add-requires c = dot-ready c.args.x.now c.args.a c.args.y.now c.args.b c.args.n c.args.step c.requires (omega (arith, c.if-n-eq0.false))
+
+pub returns : goal.returns
+returns c = dot_end c.args.x.now c.args.a c.args.y.now c.args.b c.args.n c.args.step c.add.ensures

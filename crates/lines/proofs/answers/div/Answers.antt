@@ -2,8 +2,8 @@
 use Rattle.lines.proofs.Done.{div-ready}
 use Rattle.lines.proofs.answers.div.Goals as goal
 
-pub div_answer-requires : goal.div_answer-requires
-div_answer-requires c =
+pub answer_line-requires : goal.answer_line-requires
+answer_line-requires c =
     let call = c.division-answer.ensures.given in
     let level = c.nat.ensures in
     div-ready call level c.requires.0 c.requires.1

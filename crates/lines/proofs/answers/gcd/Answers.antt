@@ -2,8 +2,8 @@
 use Rattle.lines.proofs.Done.{gcd-ready}
 use Rattle.lines.proofs.answers.gcd.Goals as goal
 
-pub gcd_answer-requires : goal.gcd_answer-requires
-gcd_answer-requires c =
+pub answer_line-requires : goal.answer_line-requires
+answer_line-requires c =
     let call = c.gcd-answer.ensures.given in
     let level = c.nat.ensures in
     gcd-ready call level c.requires.0 c.requires.1

@@ -2,8 +2,8 @@
 use Rattle.lines.proofs.Done.{inv-ready}
 use Rattle.lines.proofs.answers.inv.Goals as goal
 
-pub inv_answer-requires : goal.inv_answer-requires
-inv_answer-requires c =
+pub answer_line-requires : goal.answer_line-requires
+answer_line-requires c =
     let call = c.inverse-answer.ensures.given in
     let level = c.nat.ensures in
     inv-ready call level c.requires.0 c.requires.1

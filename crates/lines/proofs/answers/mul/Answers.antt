@@ -2,8 +2,8 @@
 use Rattle.lines.proofs.Done.{mul-ready}
 use Rattle.lines.proofs.answers.mul.Goals as goal
 
-pub mul_answer-requires : goal.mul_answer-requires
-mul_answer-requires c =
+pub answer_line-requires : goal.answer_line-requires
+answer_line-requires c =
     let call = c.product-answer.ensures.given in
     let level = c.nat.ensures in
     mul-ready call level c.requires

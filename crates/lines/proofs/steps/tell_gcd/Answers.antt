@@ -1,30 +1,19 @@
 -- `lines::steps::tell_gcd` meets its contract: the lists that it lends are as long as those that the definition lends. Assumes nothing.
-use mathlib.Core.Bool.{not}
-use Rattle.lines.proofs.Operations.{part_long, rest-is, element_few, gcd_told}
+use Rattle.lines.proofs.Operations.{part_long, element_few, gcd_told}
 use Rattle.lines.specs.Steps.{most_element}
 use Rattle.text.proofs.Appends.{retold}
 use borrow.Author.Rules.{rules}
-use mathlib.Core.Path.{◌∙◌, ap}
-use mir.Syntax.{w64}
-use mir.ValLaws.{to_z-of_z}
-use native.Mathlib.Omega.{arith}
 use Rattle.lines.proofs.steps.tell_gcd.Goals as goal
 
 pub slot_words-l-requires : goal.slot_words-l-requires
-slot_words-l-requires c = element_few _ _ c.element_words-s.ensures
+slot_words-l-requires c = element_few _ _ c.element_words-n.ensures
 
-pub slice_bounds-gcd-end-6 : goal.slice_bounds-gcd-end-6
-slice_bounds-gcd-end-6 c =
-    omega (arith, (element_few _ _ c.element_words-s.ensures).1, c.requires.1.1.1.1.1.0)
-
-pub slice_bounds-gcd-end-7 : goal.slice_bounds-gcd-end-7
-slice_bounds-gcd-end-7 c =
-    part_long _ _ most_element c.requires.1.1.1.1.1.0 (element_few _ _ c.element_words-s.ensures).1
+pub slice_bounds-gcd-end-4 : goal.slice_bounds-gcd-end-4
+slice_bounds-gcd-end-4 c = part_long _ _ most_element (search rules) (element_few _ _ c.element_words-n.ensures).1
 
 pub returns : goal.returns
 returns c =
-    let x = c.args in
-    retold (gcd_told x.k x.tower.now x.a.now x.b.now c.requires.0 c.requires.1.1.0 c.requires.1.1.1.0 c.both.ensures (ap not c.if-not-both.false)
-    (to_z-of_z w64 x.k.p (search rules)) (to_z-of_z w64 c.word-n.result (record { sfits = c.word-n.type_inv }) ∙ c.word-n.ensures) (rest-is x.k.tower x.tower.now)
-    c.element_words-s.ensures c.slot_words-l.ensures x.g.now x.v.now c.requires.1.1.1.1.0 c.requires.1.1.1.1.1.1.0 x.f.now c.requires.1.1.1.1.1.0)
+    retold
+    (gcd_told c.ring_of-ring.ensures (search rules) c.requires.0 c.args.s.now.a c.args.s.now.b (search rules) (search rules) c.if-not-both.ensures
+    c.slot_words-l.ensures _ _ _ (search rules) (search rules) (search rules))
     c.gcd.ensures

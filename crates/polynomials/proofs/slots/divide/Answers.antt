@@ -20,20 +20,20 @@ divide_row-requires c =
     let if1 = c.if-cap-g in
     divide-row c.requires count_at.ensures (ap (λ (x : ℕ). x - 1) count-at2.ensures) (omega (arith, if1.false))
 
-pub finish-requires-2 : goal.finish-requires-2
-finish-requires-2 c =
+pub finish-requires-else-cap-g : goal.finish-requires-else-cap-g
+finish-requires-else-cap-g c =
     let count_at = c.count_at-cap in
     let count-at2 = c.count_at-g in
     let if1 = c.if-cap-g in
     let row = c.divide_row in
     divide-left c.requires count_at.ensures (ap (λ (x : ℕ). x - 1) count-at2.ensures) (omega (arith, if1.false)) row.ensures
 
-pub returns : goal.returns
-returns c =
+pub returns-else-cap-g : goal.returns-else-cap-g
+returns-else-cap-g c =
     let count_at = c.count_at-cap in
     let count-at2 = c.count_at-g in
     let if1 = c.if-cap-g in
     let row = c.divide_row in
-    let finish2 = c.finish-2 in
-    let finish3 = c.finish-3 in
+    let finish2 = c.finish-else-cap-g in
+    let finish3 = c.finish-else-cap-g-2 in
     divide_end c.requires count_at.ensures (ap (λ (x : ℕ). x - 1) count-at2.ensures) (omega (arith, if1.false)) row.ensures finish2.ensures finish3.ensures

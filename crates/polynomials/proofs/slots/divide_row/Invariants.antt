@@ -4,6 +4,3 @@ use Rattle.polynomials.proofs.slots.divide_row.Given as goal
 
 abbrev pub invariant-loop-k : goal.invariant-loop-k
 invariant-loop-k l = Descending l.i l.d l.p l.t l.b l.g l.cap l.initial.a l.initial.q l.initial.w l.k l.a l.q l.w
-
-abbrev pub decreases-loop-k : goal.decreases-loop-k
-decreases-loop-k l = l.k

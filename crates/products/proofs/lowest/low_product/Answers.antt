@@ -15,8 +15,8 @@ leave-requires c =
     let if1 = c.if-j-eq0 in
     lowest_leaves (level-one c.args.j c.requires.0 if1.false) c.requires.1 c.degree_at.ensures c.lowest.ensures
 
-pub returns : goal.returns
-returns c =
+pub returns-else-j-eq0 : goal.returns-else-j-eq0
+returns-else-j-eq0 c =
     let if1 = c.if-j-eq0 in
     let degree-at = c.degree_at in
     let lowest = c.lowest in

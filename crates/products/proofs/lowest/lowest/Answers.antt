@@ -1,6 +1,13 @@
+use Rattle.products.proofs.AtOnce.{once_asks}
 use Rattle.products.proofs.Lowerings.{lowest-some, lowest_few, lowering_ready, lowering_summed, lowering_writes, lowering_next, lowering_end}
 use native.Mathlib.Omega.{arith}
 use Rattle.products.proofs.lowest.lowest.Goals as goal
+
+pub three-s-requires : goal.three-s-requires
+three-s-requires c = once_asks 2 c.requires c.in-1-eq2.is-0 c.degree_at-g.ensures c.in-1-eq2.is-1 c.words_of-x.ensures c.words_of-y.ensures
+
+pub seven-s-requires : goal.seven-s-requires
+seven-s-requires c = once_asks 4 c.requires c.in-1-eq4.is-0 c.degree_at-g.ensures c.in-1-eq4.is-1 c.words_of-x.ensures c.words_of-y.ensures
 
 pub wide_of-k-requires : goal.wide_of-k-requires
 wide_of-k-requires c =
@@ -32,7 +39,5 @@ loop-k-preserved c =
     lowering_next c.requires loop-test.true loop.invariant degree-at.ensures
     (lowering_summed c.requires loop-test.true loop.invariant pairs-at.ensures) write-at.ensures
 
-pub returns : goal.returns
-returns c =
-    let loop = c.loop-k in
-    lowering_end c.requires (omega (arith, c.loop-k-test.false)) loop.invariant
+pub returns-after-loop-k : goal.returns-after-loop-k
+returns-after-loop-k c = lowering_end c.requires (omega (arith, c.loop-k-test.false)) c.loop-k.invariant

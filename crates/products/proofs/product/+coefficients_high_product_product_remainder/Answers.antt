@@ -82,7 +82,7 @@ pub high_product-overflow_add-lower-2 : goal.high_product-overflow_add-lower-2
 high_product-overflow_add-lower-2 t c =
     let size-at = c.size_at-s in
     let size-at2 = c.size_at in
-    let long = pick_long c.args.e_in c.args.w.now c.args.e.now (2 ^ 63) (omega (arith, c.well_formed)) (omega (arith, c.well_formed)) in
+    let long = pick_long c.args.e.stored c.args.w.now c.args.e.lent.now (2 ^ 63) (omega (arith, c.well_formed)) (omega (arith, c.well_formed)) in
     record { fits = omega (arith, product-lower c.requires size-at.ensures size-at2.ensures, long) }
 
 pub high_product-copy-requires : goal.high_product-copy-requires
@@ -147,36 +147,16 @@ remainder-loop-k-init t c =
 
 pub remainder-product-requires : goal.remainder-product-requires
 remainder-product-requires t c =
-    let size-at = c.size_at-s in
-    let loop = c.loop-k in
-    let loop-test = c.loop-k-test in
-    let first_of = c.first_of in
-    let part_at = c.part_at-f in
-    let first-of2 = c.first_of-in-loop-k in
-    let part-at2 = c.part_at-q in
-    let Span-of = c.span_of-n in
-    let part-at3 = c.part_at-c in (
+    let words = c.size_at-s.ensures ∙ c.requires.sized.at c.args.i c.requires.low in (
       omega (arith, c.decreases),
-      falling_asks c.requires loop-test.true loop.invariant (stood_now c.requires) refl
-          (counted (size-at.ensures ∙ c.requires.sized.at c.args.i c.requires.low)
-          part_at.ensures first_of.ensures part-at2.ensures first-of2.ensures Span-of.ensures part-at3.ensures),
+      rw c.taken_at-o.ensures
+          (falling_asks c.requires c.loop-k-test.true c.loop-k.invariant (stood_now c.requires) refl (counted words c.part_at-c.ensures)),
     )
 
 pub remainder-loop-k-preserved : goal.remainder-loop-k-preserved
 remainder-loop-k-preserved t c =
-    let size-at = c.size_at-s in
-    let loop = c.loop-k in
-    let loop-test = c.loop-k-test in
-    let first_of = c.first_of in
-    let part_at = c.part_at-f in
-    let first-of2 = c.first_of-in-loop-k in
-    let part-at2 = c.part_at-q in
-    let Span-of = c.span_of-n in
-    let part-at3 = c.part_at-c in
-    let product = c.product in
-    row_next c.requires loop-test.true loop.invariant refl
-    (counted (size-at.ensures ∙ c.requires.sized.at c.args.i c.requires.low)
-    part_at.ensures first_of.ensures part-at2.ensures first-of2.ensures Span-of.ensures part-at3.ensures) product.ensures
+    let words = c.size_at-s.ensures ∙ c.requires.sized.at c.args.i c.requires.low in
+    row_next c.requires c.loop-k-test.true c.loop-k.invariant refl (counted words c.part_at-c.ensures) (rw c.taken_at-o.ensures at c.product.ensures)
 
 pub remainder-returns : goal.remainder-returns
 remainder-returns t c =

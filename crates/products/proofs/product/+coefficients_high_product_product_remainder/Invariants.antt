@@ -20,14 +20,8 @@ decreases-remainder l = 3 * l.i + 1
 
 abbrev pub invariant-coefficients-loop-k : goal.invariant-coefficients-loop-k
 invariant-coefficients-loop-k l =
-    Filling l.j l.d l.p l.m l.e l.e_in l.ea (operands l.o l.x l.y) l.neg l.keep l.initial.w l.top l.k l.w
-
-abbrev pub decreases-coefficients-loop-k : goal.decreases-coefficients-loop-k
-decreases-coefficients-loop-k l = l.h - l.k
+    Filling l.j l.d l.p l.m l.e.lent.now l.e.stored l.e.at (operands l.o) l.neg l.keep l.initial.w l.top l.k l.w
 
 abbrev pub invariant-remainder-loop-k : goal.invariant-remainder-loop-k
 invariant-remainder-loop-k l =
-    RowFalling l.i l.d l.p l.e l.e_in l.ea l.y l.y_in l.b l.g l.initial.w l.a l.cap l.top l.k l.w
-
-abbrev pub decreases-remainder-loop-k : goal.decreases-remainder-loop-k
-decreases-remainder-loop-k l = l.k
+    RowFalling l.i l.d l.p l.e.lent.now l.e.stored l.e.at l.y.lent.now l.y.stored l.y.at l.g l.initial.w l.a l.cap l.top l.k l.w

@@ -1,13 +1,17 @@
 use Prim.Native.Nat.{ℕ, ◌^◌}
 use Rattle.products.proofs.Frames.{pick_long}
-use Rattle.sequences.proofs.FollowLaws.{searches, follows_zero, multiplies, inverts, scales, goes_on, shows, ends}
+use Rattle.sequences.proofs.FollowLaws.{searches, follows_zero, multiplies, inverts, scales, goes_on, stops}
 use Rattle.sequences.proofs.FollowNumbers.{numbers_ask, numbers_follow}
 use Rattle.sequences.proofs.InvertLaws.{invert-level, copies-inverse, gives_inverse, copies_divisor, gives_divisor}
-use Rattle.sequences.proofs.PassLaws.{passes_fit, passing_asks, passing_follows, passing_fewer, passing_next, passing_shows, passing_over, passing_closes, passing_ends}
-use Rattle.sequences.proofs.RunWords.{Sizes, Slots, run_fits, run-reads, run-under, run_begins, run-count, run-place, run_inverts, run-underway, run-passes, run_shows, run_over}
+use Rattle.sequences.proofs.PassLaws.{passes_fit, passing_start, passing_asks, passing_follows, passing_next, passing_stops, passing_closes, passing_ends}
+use Rattle.sequences.proofs.RunWords.{Sizes, Slots, run_fits, run-reads, run-under, run_begins, run-count, run-place, run_inverts, run-underway, run-passes, run_stops}
 use Rattle.sequences.proofs.StartLaws.{number_asks, number_done}
 use native.Mathlib.Omega.{arith}
+use Rattle.std.proofs.lemmas.Result.{err_from_is_err_and}
+use Rattle.std.proofs.Common.{Err, ap, ◌∙◌}
 use Rattle.sequences.proofs.inverse.+follow_invert_passes_run.Goals as goal
+use Rattle.std.proofs.lemmas.Result.{err_from_is_err_and}
+use Rattle.std.proofs.Common.{Err, ap, ◌∙◌}
 use Rattle.sequences.proofs.inverse.+follow_invert_passes_run.Goals.{run-After-size_at}
 
 sizes : (t : ℕ) (c : run-After-size_at t)
@@ -49,25 +53,21 @@ pub follow-invert-requires : goal.follow-invert-requires
 follow-invert-requires t c =
     (omega (arith, c.decreases), inverts c.requires c.size_at-s.ensures c.top_of-k.ensures (omega (arith, c.if-k-eq0.false)) c.part_at-free.ensures c.part_at.ensures c.times.ensures)
 
-pub follow-times-requires-in-Done : goal.follow-times-requires-in-Done
-follow-times-requires-in-Done t c =
+pub follow-times-requires-2 : goal.follow-times-requires-2
+follow-times-requires-2 t c =
     scales c.requires c.size_at-s.ensures c.top_of-k.ensures (omega (arith, c.if-k-eq0.false)) c.part_at-free.ensures c.part_at.ensures c.times.ensures c.invert.ensures
-    c.in-Done.is
+    c.in_ok-invert.was
 
-pub follow-returns-in-Done : goal.follow-returns-in-Done
-follow-returns-in-Done t c =
+pub follow-returns : goal.follow-returns
+follow-returns t c =
     goes_on c.requires c.size_at-s.ensures c.top_of-k.ensures (omega (arith, c.if-k-eq0.false)) c.part_at-free.ensures c.part_at.ensures c.times.ensures c.invert.ensures
-    c.in-Done.is c.times-in-Done.ensures
+    c.in_ok-invert.was c.times-2.ensures
 
-pub follow-returns-in-Factor : goal.follow-returns-in-Factor
-follow-returns-in-Factor t c =
-    shows c.requires c.size_at-s.ensures c.top_of-k.ensures (omega (arith, c.if-k-eq0.false)) c.part_at-free.ensures c.part_at.ensures c.times.ensures c.invert.ensures _
-    c.in-Factor.is
-
-pub follow-returns-in-Long : goal.follow-returns-in-Long
-follow-returns-in-Long t c =
-    ends c.requires c.size_at-s.ensures c.top_of-k.ensures (omega (arith, c.if-k-eq0.false)) c.part_at-free.ensures c.part_at.ensures c.times.ensures c.invert.ensures
-    c.in-Long.is
+pub follow-returns-in_err-invert : goal.follow-returns-in_err-invert
+follow-returns-in_err-invert t c =
+    let p = err_from_is_err_and c.from_residual.result c.from_residual.ensures.1 in
+    rw (p.1, p.2) (stops c.requires c.size_at-s.ensures c.top_of-k.ensures (omega (arith, c.if-k-eq0.false)) c.part_at-free.ensures c.part_at.ensures c.times.ensures c.invert.ensures _
+    c.in_err-invert.was)
 
 pub invert-invert_number-requires : goal.invert-invert_number-requires
 invert-invert_number-requires t c =
@@ -79,64 +79,61 @@ invert-returns-then-i-eq0 t c =
 
 pub invert-copy-requires : goal.invert-copy-requires
 invert-copy-requires t c =
-    let q = copies-inverse c.requires c.run.ensures c.in-Inverse.is c.size_at.ensures in
+    let q = copies-inverse c.requires c.run.ensures c.in-Ok.is c.size_at.ensures in
     ((q.to, q.from), q.apart)
 
-pub invert-size_at-requires-in-Divisor : goal.invert-size_at-requires-in-Divisor
-invert-size_at-requires-in-Divisor t c =
-    omega (arith, invert-level c.requires c.run.ensures c.in-Divisor.is)
+pub invert-size_at-requires-in-Err-Factor : goal.invert-size_at-requires-in-Err-Factor
+invert-size_at-requires-in-Err-Factor t c =
+    omega (arith, invert-level c.requires c.run.ensures (c.in-Err-Factor.is ∙ ap Err c.in-Err-Factor.field-0-is))
 
-pub invert-copy-requires-in-Divisor : goal.invert-copy-requires-in-Divisor
-invert-copy-requires-in-Divisor t c =
-    let q = copies_divisor c.requires c.run.ensures c.in-Divisor.is c.size_at-in-Divisor.ensures in
+pub invert-copy-requires-in-Err-Factor : goal.invert-copy-requires-in-Err-Factor
+invert-copy-requires-in-Err-Factor t c =
+    let q = copies_divisor c.requires c.run.ensures (c.in-Err-Factor.is ∙ ap Err c.in-Err-Factor.field-0-is) c.size_at-in-Err-Factor.ensures in
     ((q.to, q.from), q.apart)
 
-pub invert-returns-in-Inverse : goal.invert-returns-in-Inverse
-invert-returns-in-Inverse t c =
-    gives_inverse c.requires c.run.ensures c.in-Inverse.is c.size_at.ensures c.copy.ensures
+pub invert-returns-in-Ok : goal.invert-returns-in-Ok
+invert-returns-in-Ok t c =
+    gives_inverse c.requires c.run.ensures c.in-Ok.is c.size_at.ensures c.copy.ensures
 
-pub invert-returns-in-Divisor : goal.invert-returns-in-Divisor
-invert-returns-in-Divisor t c =
-    gives_divisor c.requires c.run.ensures c.in-Divisor.is c.size_at-in-Divisor.ensures c.copy-in-Divisor.ensures
+pub invert-returns-in-Err-Factor : goal.invert-returns-in-Err-Factor
+invert-returns-in-Err-Factor t c =
+    gives_divisor c.requires c.run.ensures (c.in-Err-Factor.is ∙ ap Err c.in-Err-Factor.field-0-is) c.size_at-in-Err-Factor.ensures c.copy-in-Err-Factor.ensures
 
-pub passes-overflow_add-left : goal.passes-overflow_add-left
-passes-overflow_add-left t c = omega (arith, passes_fit c.requires, c.well_formed)
+pub passes-overflow_add-taken-end : goal.passes-overflow_add-taken-end
+passes-overflow_add-taken-end t c = omega (arith, passes_fit c.requires, c.well_formed)
 
-pub passes-remainder-requires : goal.passes-remainder-requires
-passes-remainder-requires t c =
-    passing_asks c.requires c.loop-k.invariant c.loop-k-test.true
+pub passes-loop-taken-init : goal.passes-loop-taken-init
+passes-loop-taken-init t c = passing_start c.requires (omega arith)
 
-pub passes-follow-requires : goal.passes-follow-requires
-passes-follow-requires t c =
-    (omega (arith, c.decreases), passing_follows c.requires c.loop-k.invariant c.loop-k-test.true c.remainder.ensures)
-
-pub passes-loop-k-smaller : goal.passes-loop-k-smaller
-passes-loop-k-smaller t c =
-    passing_fewer c.requires c.loop-k.invariant c.loop-k-test.true c.remainder.ensures c.follow.result c.follow.ensures _ c.in-Next.is
-
-pub passes-loop-k-preserved : goal.passes-loop-k-preserved
-passes-loop-k-preserved t c =
-    passing_next c.requires c.loop-k.invariant c.loop-k-test.true c.remainder.ensures c.follow.result c.follow.ensures _ c.in-Next.is
-
-pub passes-returns-in-Shows : goal.passes-returns-in-Shows
-passes-returns-in-Shows t c =
-    passing_shows c.requires c.loop-k.invariant c.loop-k-test.true c.remainder.ensures c.follow.result c.follow.ensures _ _ c.in-Shows.is
-
-pub passes-returns-in-Over : goal.passes-returns-in-Over
-passes-returns-in-Over t c =
-    absurd (passing_over c.requires c.loop-k.invariant c.loop-k-test.true c.remainder.ensures c.follow.result c.follow.ensures c.in-Over.is)
+pub passes-returns-then-k-lt2 : goal.passes-returns-then-k-lt2
+passes-returns-then-k-lt2 t c =
+    passing_ends c.requires c.loop-taken.invariant (omega (arith, c.if-k-lt2.true)) c.close.result c.close.ensures
 
 pub passes-close-requires : goal.passes-close-requires
 passes-close-requires t c =
-    passing_closes c.requires c.loop-k.invariant (omega (arith, c.loop-k-test.false))
+    passing_closes c.requires c.loop-taken.invariant (omega (arith, c.if-k-lt2.true))
 
-pub passes-returns : goal.passes-returns
-passes-returns t c =
-    passing_ends c.requires c.loop-k.invariant (omega (arith, c.loop-k-test.false)) c.close.result c.close.ensures
+pub passes-remainder-requires : goal.passes-remainder-requires
+passes-remainder-requires t c =
+    passing_asks c.requires c.loop-taken.invariant (omega (arith, c.if-k-lt2.false))
+
+pub passes-follow-requires : goal.passes-follow-requires
+passes-follow-requires t c =
+    (omega (arith, c.decreases), passing_follows c.requires c.loop-taken.invariant (omega (arith, c.if-k-lt2.false)) c.remainder.ensures)
+
+pub passes-loop-taken-preserved : goal.passes-loop-taken-preserved
+passes-loop-taken-preserved t c =
+    passing_next c.requires c.loop-taken.invariant (omega (arith, c.if-k-lt2.false)) c.remainder.ensures _ c.follow.ensures (omega arith) _ c.in_ok-count.was
+
+pub passes-returns-in_err-count : goal.passes-returns-in_err-count
+passes-returns-in_err-count t c =
+    let p = err_from_is_err_and c.from_residual.result c.from_residual.ensures.1 in
+    rw (p.1, p.2)
+    (passing_stops c.requires c.loop-taken.invariant (omega (arith, c.if-k-lt2.false)) c.remainder.ensures _ c.follow.ensures _ c.in_err-count.was)
 
 pub run-overflow_add-under-2 : goal.run-overflow_add-under-2
 run-overflow_add-under-2 t c =
-    let long = pick_long c.args.e_in c.args.w.now c.args.e.now (2 ^ 63) (omega (arith, c.well_formed)) (omega (arith, c.well_formed)) in
+    let long = pick_long c.args.e.stored c.args.w.now c.args.e.lent.now (2 ^ 63) (omega (arith, c.well_formed)) (omega (arith, c.well_formed)) in
     record { fits = omega (arith, run-under c.requires (sizes t (goal.at.run-overflow_add-under-2 t c).After-size_at), long) }
 
 pub run-overflow_add-slot : goal.run-overflow_add-slot
@@ -169,8 +166,8 @@ run-overflow_add-unit t c = record { fits = omega (arith, slots t (goal.at.run-o
 pub run-overflow_add-g : goal.run-overflow_add-g
 run-overflow_add-g t c = record { fits = omega (arith, slots t (goal.at.run-overflow_add-g t c).After-size_at) }
 
-pub run-led_at-f-requires : goal.run-led_at-f-requires
-run-led_at-f-requires t c = omega (arith, slots t (goal.at.run-led_at-f-requires t c).After-size_at)
+pub run-in_slot-f-requires : goal.run-in_slot-f-requires
+run-in_slot-f-requires t c = omega (arith, slots t (goal.at.run-in_slot-f-requires t c).After-size_at)
 
 pub run-overflow_add-unit-2 : goal.run-overflow_add-unit-2
 run-overflow_add-unit-2 t c = record { fits = omega (arith, slots t (goal.at.run-overflow_add-unit-2 t c).After-size_at) }
@@ -180,38 +177,33 @@ run-overflow_sub-n t c =
     let sized = sizes t (goal.at.run-overflow_sub-n t c).After-size_at in
     omega (arith, run-count c.requires sized c.count_in-n.ensures c.begin.ensures)
 
-pub run-part_at-at-requires : goal.run-part_at-at-requires
-run-part_at-at-requires t c =
-    let sized = sizes t (goal.at.run-part_at-at-requires t c).After-size_at in
-    omega (arith, run-place c.requires sized c.count_in-n.ensures c.begin.ensures c.led_at-f.ensures c.led_at-k.ensures, c.well_formed)
+pub run-part_at-requires : goal.run-part_at-requires
+run-part_at-requires t c =
+    let sized = sizes t (goal.at.run-part_at-requires t c).After-size_at in
+    omega (arith, run-place c.requires sized c.count_in-n.ensures c.begin.ensures c.in_slot-f.ensures c.in_slot-k.ensures, c.well_formed)
 
 pub run-invert-requires : goal.run-invert-requires
 run-invert-requires t c =
     let sized = sizes t (goal.at.run-invert-requires t c).After-size_at in
-    (omega (arith, c.decreases, c.requires.0), run_inverts c.requires sized c.count_in-n.ensures c.begin.ensures c.led_at-f.ensures c.led_at-k.ensures c.part_at-at.ensures)
+    (omega (arith, c.decreases, c.requires.0), run_inverts c.requires sized c.count_in-n.ensures c.begin.ensures c.in_slot-f.ensures c.in_slot-k.ensures c.part_at.ensures)
 
 pub run-passes-requires : goal.run-passes-requires
 run-passes-requires t c =
     let sized = sizes t (goal.at.run-passes-requires t c).After-size_at in (
       omega (arith, c.decreases, c.requires.0),
-      run-underway c.requires sized c.count_in-n.ensures c.begin.ensures c.led_at-f.ensures c.led_at-k.ensures c.part_at-at.ensures
-          c.invert.result c.invert.ensures c.in-Done.is,
+      run-underway c.requires sized c.count_in-n.ensures c.begin.ensures c.in_slot-f.ensures c.in_slot-k.ensures c.part_at.ensures
+          c.invert.result c.invert.ensures c.in_ok-invert.was,
     )
 
-pub run-returns-in-Done : goal.run-returns-in-Done
-run-returns-in-Done t c =
-    let sized = sizes t (goal.at.run-returns-in-Done t c).After-size_at in
-    run-passes c.requires sized c.count_in-n.ensures c.begin.ensures c.led_at-f.ensures c.led_at-k.ensures c.part_at-at.ensures
-    c.invert.result c.invert.ensures _ c.in-Done.is c.passes.ensures
+pub run-returns : goal.run-returns
+run-returns t c =
+    let sized = sizes t (goal.at.run-returns t c).After-size_at in
+    run-passes c.requires sized c.count_in-n.ensures c.begin.ensures c.in_slot-f.ensures c.in_slot-k.ensures c.part_at.ensures
+    c.invert.result c.invert.ensures _ c.in_ok-invert.was c.passes.ensures
 
-pub run-returns-in-Factor : goal.run-returns-in-Factor
-run-returns-in-Factor t c =
-    let sized = sizes t (goal.at.run-returns-in-Factor t c).After-size_at in
-    run_shows c.requires sized c.count_in-n.ensures c.begin.ensures c.led_at-f.ensures c.led_at-k.ensures c.part_at-at.ensures
-    c.invert.result c.invert.ensures _ c.in-Factor.is
-
-pub run-returns-in-Long : goal.run-returns-in-Long
-run-returns-in-Long t c =
-    let sized = sizes t (goal.at.run-returns-in-Long t c).After-size_at in
-    absurd (run_over c.requires sized c.count_in-n.ensures c.begin.ensures c.led_at-f.ensures c.led_at-k.ensures c.part_at-at.ensures
-    c.invert.result c.invert.ensures c.in-Long.is)
+pub run-returns-in_err-invert : goal.run-returns-in_err-invert
+run-returns-in_err-invert t c =
+    let sized = sizes t (goal.at.run-returns-in_err-invert t c).After-size_at in
+    let p = err_from_is_err_and c.from_residual.result c.from_residual.ensures.1 in
+    rw (p.1, p.2) (run_stops c.requires sized c.count_in-n.ensures c.begin.ensures c.in_slot-f.ensures c.in_slot-k.ensures c.part_at.ensures
+    c.invert.result c.invert.ensures _ c.in_err-invert.was)

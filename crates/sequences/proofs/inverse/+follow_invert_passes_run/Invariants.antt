@@ -17,9 +17,6 @@ decreases-passes l = 4 * l.h + 2
 abbrev pub decreases-run : goal.decreases-run
 decreases-run l = 4 * l.i - 1
 
-abbrev pub invariant-passes-loop-k : goal.invariant-passes-loop-k
-invariant-passes-loop-k l =
-    Passing l.h l.g l.s l.d l.z l.p l.e l.e_in l.under l.initial.f l.initial.k l.initial.w l.next l.f l.k l.left l.w
-
-abbrev pub decreases-passes-loop-k : goal.decreases-passes-loop-k
-decreases-passes-loop-k l = l.k.count
+abbrev pub invariant-passes-loop-taken : goal.invariant-passes-loop-taken
+invariant-passes-loop-taken l =
+    Passing l.h l.g l.s l.d l.z l.p l.e.lent.now l.e.stored l.e.at l.initial.f l.initial.k l.initial.w l.next l.f l.k (l._taken-end - l._taken) l.w

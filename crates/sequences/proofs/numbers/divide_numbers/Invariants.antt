@@ -6,6 +6,3 @@ use Rattle.sequences.proofs.numbers.divide_numbers.Given as goal
 
 abbrev pub invariant-loop-k : goal.invariant-loop-k
 invariant-loop-k l = UnitFalling 0 [] l.p [] true 0 [] true l.b l.g [] true l.u l.initial.w l.a l.cap (length l.initial.w) l.k l.w
-
-abbrev pub decreases-loop-k : goal.decreases-loop-k
-decreases-loop-k l = l.k

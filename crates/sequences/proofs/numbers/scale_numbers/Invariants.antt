@@ -1,4 +1,3 @@
-use Prim.Native.Nat.{◌-◌}
 use Rattle.sequences.proofs.RowLoops.{Scaling}
 use lib.ListN.{length}
 use mathlib.Core.Bool.{true}
@@ -7,6 +6,3 @@ use Rattle.sequences.proofs.numbers.scale_numbers.Given as goal
 
 abbrev pub invariant-loop-k : goal.invariant-loop-k
 invariant-loop-k l = Scaling 0 l.n [] l.p [] true 0 l.u l.initial.w l.c (length l.initial.w) l.k l.w
-
-abbrev pub decreases-loop-k : goal.decreases-loop-k
-decreases-loop-k l = l.n - l.k

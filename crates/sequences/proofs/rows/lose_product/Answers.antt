@@ -12,15 +12,11 @@ pub returns-then-i-eq0 : goal.returns-then-i-eq0
 returns-then-i-eq0 c =
     lose_up c.if-i-eq0.true c.requires c.lose_numbers.ensures
 
-pub overflow_add-h : goal.overflow_add-h
-overflow_add-h c = record { fits = omega (arith, losing_count c.requires, c.well_formed) }
+pub overflow_add-k-end : goal.overflow_add-k-end
+overflow_add-k-end c = record { fits = omega (arith, losing_count c.requires, c.well_formed) }
 
 pub first_of-requires : goal.first_of-requires
 first_of-requires c =
-    omega (arith, losing_places c.requires c.loop-k.invariant c.loop-k-test.true, c.well_formed)
-
-pub first_of-requires-in-loop-k : goal.first_of-requires-in-loop-k
-first_of-requires-in-loop-k c =
     omega (arith, losing_places c.requires c.loop-k.invariant c.loop-k-test.true, c.well_formed)
 
 pub span_of-q-requires : goal.span_of-q-requires
@@ -33,10 +29,6 @@ product-requires c =
     let words = acting_size c.requires.acting c.size_at-s.ensures in
     let places = met words c.part_at-x.ensures c.first_of.ensures c.part_at-y.ensures c.first_of-in-loop-k.ensures c.span_of-q.ensures c.part_at-at.ensures in
     losing_asks c.requires c.loop-k.invariant c.loop-k-test.true refl places
-
-pub overflow_add-k : goal.overflow_add-k
-overflow_add-k c =
-    record { fits = omega (arith, losing_places c.requires c.loop-k.invariant c.loop-k-test.true, c.well_formed) }
 
 pub loop-k-preserved : goal.loop-k-preserved
 loop-k-preserved c =

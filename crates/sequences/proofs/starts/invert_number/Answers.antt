@@ -1,14 +1,14 @@
 use Rattle.sequences.proofs.StartLaws.{unit_done, factor_put, factor_done}
 use Rattle.sequences.proofs.starts.invert_number.Goals as goal
 
-pub put-requires-in-Factor : goal.put-requires-in-Factor
-put-requires-in-Factor c =
-    factor_put c.requires c.residue_in.ensures c.inverse.ensures c.in-Factor.is
+pub put-requires-in-Err : goal.put-requires-in-Err
+put-requires-in-Err c =
+    factor_put c.requires c.residue_in.ensures c.inverse.ensures c.in-Err.is
 
-pub returns-in-Unit : goal.returns-in-Unit
-returns-in-Unit c =
-    unit_done c.requires c.residue_in.ensures c.inverse.ensures c.in-Unit.is c.put.ensures
+pub returns-in-Ok : goal.returns-in-Ok
+returns-in-Ok c =
+    unit_done c.requires c.residue_in.ensures c.inverse.ensures c.in-Ok.is c.put.ensures
 
-pub returns-in-Factor : goal.returns-in-Factor
-returns-in-Factor c =
-    factor_done c.requires c.residue_in.ensures c.inverse.ensures c.in-Factor.is c.put-in-Factor.ensures
+pub returns-in-Err : goal.returns-in-Err
+returns-in-Err c =
+    factor_done c.requires c.residue_in.ensures c.inverse.ensures c.in-Err.is c.put-in-Err.ensures

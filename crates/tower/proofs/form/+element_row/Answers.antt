@@ -26,8 +26,8 @@ element-row-requires t c =
     let m : degree-at.result * size c.args.d (c.args.i - 1) ≡ get_or c.args.d (c.args.i - 1) 0 * size c.args.d (c.args.i - 1) = ap (λ (x : ℕ). x * size c.args.d (c.args.i - 1)) degree-at.ensures in
     (omega (arith, c.decreases), record { low = omega (arith, h.low); sized = h.sized; inside = omega (arith, h.inside, e, m) })
 
-pub element-returns : goal.element-returns
-element-returns t c =
+pub element-returns-else-i-eq0 : goal.element-returns-else-i-eq0
+element-returns-else-i-eq0 t c =
     let if1 = c.if-i-eq0 in
     let degree-at = c.degree_at in
     let row = c.row in
@@ -115,34 +115,32 @@ row-loop-k-preserved t c =
     let es : size-at.result ≡ size c.args.d c.args.i = size-at.ensures ∙ h.sized.at c.args.i h.low in
     let k = loop.k in
     let q = row_fits k c.args.n (size c.args.d c.args.i) loop-test.true in
-    let ek : k * size-at.result ≡ k * size c.args.d c.args.i = ap (λ (m : ℕ). k * m) es in (
-      omega arith,
-      next
-          c.args.p
-          c.args.d
-          c.args.i
-          c.args.n
-          c.args.x.now
-          c.args.a
-          h.inside
-          (sym degree-ok.ensures ∙ if1.false)
-          k
-          coefficient-at.result
-          count_at.result
-          loop-test.true
-          (coefficient-at.ensures ∙ ap (λ (m : ℕ). c.args.a + 1 + m) ek)
-          count_at.ensures
-          (size-pos c.args.d c.args.i)
-          is_zero.result
-          is_zero.ensures
-          element.result
-          fits-degree.result
-          element.ensures
-          if2.false
-          fits-degree.ensures
-          if3.false
-          loop.invariant.1,
-    )
+    let ek : k * size-at.result ≡ k * size c.args.d c.args.i = ap (λ (m : ℕ). k * m) es in
+    next
+    c.args.p
+    c.args.d
+    c.args.i
+    c.args.n
+    c.args.x.now
+    c.args.a
+    h.inside
+    (sym degree-ok.ensures ∙ if1.false)
+    k
+    coefficient-at.result
+    count_at.result
+    loop-test.true
+    (coefficient-at.ensures ∙ ap (λ (m : ℕ). c.args.a + 1 + m) ek)
+    count_at.ensures
+    (size-pos c.args.d c.args.i)
+    is_zero.result
+    is_zero.ensures
+    element.result
+    fits-degree.result
+    element.ensures
+    if2.false
+    fits-degree.ensures
+    if3.false
+    loop.invariant
 
 pub row-returns : goal.row-returns
 row-returns t c =
@@ -152,4 +150,4 @@ row-returns t c =
     let h = c.requires in
     let e : loop.k ≡ c.args.n = omega arith in
     finish c.args.p c.args.d c.args.i c.args.n c.args.x.now c.args.a h.inside
-    (sym degree-ok.ensures ∙ if1.false) (rw e at loop.invariant.1)
+    (sym degree-ok.ensures ∙ if1.false) (rw e at loop.invariant)

@@ -1,4 +1,4 @@
-use Prim.Native.Nat.{◌+◌, ◌-◌, ◌*◌, ◌≤◌}
+use Prim.Native.Nat.{◌+◌, ◌*◌}
 use Rattle.algebra.specs.Test.{all_to}
 use Rattle.tower.proofs.Rows.{coefficient_at}
 use mathlib.Core.Bool.{true}
@@ -12,7 +12,4 @@ abbrev pub decreases-row : goal.decreases-row
 decreases-row l = 2 * l.i + 1
 
 abbrev pub invariant-row-loop-k : goal.invariant-row-loop-k
-invariant-row-loop-k l = (l.k ≤ l.n) × (all_to l.k (coefficient_at l.p l.d l.i l.x l.a) ≡ true)
-
-abbrev pub decreases-row-loop-k : goal.decreases-row-loop-k
-decreases-row-loop-k l = l.n - l.k
+invariant-row-loop-k l = all_to l.k (coefficient_at l.p l.d l.i l.x l.a) ≡ true

@@ -1,12 +1,11 @@
-use Rattle.tower.proofs.Puts.{next-copy}
+-- `store::clear` meets its contract: n words 0 are n copies of one.
+use Rattle.std.proofs.Common.{rules, ◌≡◌, ◌∙◌, ℕ, ap, replicate, arith}
+use Rattle.std.proofs.lemmas.Grind.{common_steps}
+use Rattle.tower.proofs.Puts.{copies_word}
 use lib.IntN.{pos}
-use mathlib.Core.List.{[], ◌∷◌}
-use mathlib.Core.Path.{refl}
-use native.Mathlib.Omega.{arith}
 use Rattle.tower.proofs.store.clear.Goals as goal
 
-pub loop-k-preserved : goal.loop-k-preserved
-loop-k-preserved c =
-    let l = c.loop-k in
-    let put_word = c.put_word in
-    (omega arith, next-copy l.k 1 (pos 0 ∷ []) refl (omega arith) l.invariant.1 put_word.ensures)
+pub returns : goal.returns
+returns c =
+    let filled : c.fill.new.self ≡ replicate c.args.n (pos 0) = c.fill.ensures.after (λ y h. search rules) ∙ ap (λ (k : ℕ). replicate k (pos 0)) (grind (arith, common_steps)) in
+    rw (copies_word c.args.n (pos 0)) (grind (arith, common_steps))

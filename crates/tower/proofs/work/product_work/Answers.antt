@@ -1,76 +1,32 @@
-use Rattle.tower.proofs.Moduli.{size-next, size_bound}
-use Rattle.tower.proofs.Working.{product-none, product-step}
-use Rattle.tower.specs.Writing.{size-zero}
-use mathlib.Core.Path.{sym}
-use native.Mathlib.Omega.{arith}
+-- `work::product_work` meets its contract: it adds up two slots a level.
+use Rattle.std.proofs.Common.{rules, ◌≡◌, ◌<◌, ◌≤◌, ◌^◌, ◌*◌, ◌+◌, ◌-◌, get_or, sym, arith}
+use Rattle.tower.proofs.Moduli.{size_bound}
+use Rattle.tower.proofs.Working.{product-none}
+use Rattle.tower.specs.Work.{room, product_work, product_work_suc}
+use Rattle.tower.specs.Writing.{size}
 use Rattle.tower.proofs.work.product_work.Goals as goal
 
-pub loop-i-init : goal.loop-i-init
-loop-i-init c = (omega arith, sym (size-zero c.args.d), product-none c.args.d, omega arith)
+pub over_levels-requires-clause-callable : goal.over_levels-requires-clause-callable
+over_levels-requires-clause-callable c = λ i l.
+    let w = c.requires in
+    let low : 1 ≤ get_or c.args.d i 0 = w.some i l in
+    let high : get_or c.args.d i 0 ≤ 64 = w.small.each i (omega (arith, w.low)) in
+    let few : size c.args.d i < 2 ^ 32 = size_bound c.args.d w.small i (omega (arith, w.low)) in
+    search rules
 
-pub room-m-requires : goal.room-m-requires
-room-m-requires c =
-    let loop = c.loop-i in
-    let degree-at = c.degree_at-g in
-    let h = c.requires in
-    let i = loop.i in
-    let sb = size_bound c.args.d h.small i (omega (arith, h.low)) in
-    let sm = h.small.each i (omega (arith, h.low)) in
-    let bg = h.some i (omega arith) in
-    let l = loop.invariant in
-    omega (arith, degree-at.ensures)
+pub over_levels-requires-clause-few : goal.over_levels-requires-clause-few
+over_levels-requires-clause-few c = λ i r l h.
+    let w = c.requires in
+    let low : 1 ≤ get_or c.args.d i 0 = w.some i l in
+    let high : get_or c.args.d i 0 ≤ 64 = w.small.each i (omega (arith, w.low)) in
+    let few : size c.args.d i < 2 ^ 32 = size_bound c.args.d w.small i (omega (arith, w.low)) in
+    search rules
 
-pub next-s-requires : goal.next-s-requires
-next-s-requires c =
-    let loop = c.loop-i in
-    let degree-at = c.degree_at-g in
-    let h = c.requires in
-    let i = loop.i in
-    let sb = size_bound c.args.d h.small i (omega (arith, h.low)) in
-    let sm = h.small.each i (omega (arith, h.low)) in
-    let bg = h.some i (omega arith) in
-    let l = loop.invariant in
-    omega (arith, degree-at.ensures)
-
-pub overflow_mul-r : goal.overflow_mul-r
-overflow_mul-r c =
-    let loop = c.loop-i in
-    let room = c.room-m in
-    let h = c.requires in
-    let i = loop.i in
-    let sb = size_bound c.args.d h.small i (omega (arith, h.low)) in
-    let sm = h.small.each i (omega (arith, h.low)) in
-    let bg = h.some i (omega arith) in
-    let l = loop.invariant in
-    omega (arith, room.ensures.1)
-
-pub overflow_add-r : goal.overflow_add-r
-overflow_add-r c =
-    let loop = c.loop-i in
-    let room = c.room-m in
-    let h = c.requires in
-    let i = loop.i in
-    let sb = size_bound c.args.d h.small i (omega (arith, h.low)) in
-    let sm = h.small.each i (omega (arith, h.low)) in
-    let bg = h.some i (omega arith) in
-    let l = loop.invariant in
-    omega (arith, room.ensures.1, h.low)
-
-pub loop-i-preserved : goal.loop-i-preserved
-loop-i-preserved c =
-    let loop = c.loop-i in
-    let degree-at = c.degree_at-g in
-    let room = c.room-m in
-    let next = c.next-s in
-    let h = c.requires in
-    let i = loop.i in
-    let sb = size_bound c.args.d h.small i (omega (arith, h.low)) in
-    let sm = h.small.each i (omega (arith, h.low)) in
-    let bg = h.some i (omega arith) in
-    let l = loop.invariant in
-    let e2 = size-next c.args.d i loop.s degree-at.result next.result l.1 degree-at.ensures next.ensures.0 in (
-      omega arith,
-      e2,
-      product-step c.args.d i loop.s degree-at.result room.result loop.r l.1 degree-at.ensures room.ensures.0 l.2,
-      omega (arith, room.ensures.1),
-    )
+pub returns : goal.returns
+returns c = c.over_levels.ensures.sum (product_work c.args.d) (record {
+  none = sym (product-none c.args.d);
+  more =
+      λ i r l h.
+      let given : r ≡ 2 * room c.args.d i (2 * get_or c.args.d i 0 - 2 + 1) = search rules in
+      omega (arith, product_work_suc c.args.d i);
+})
