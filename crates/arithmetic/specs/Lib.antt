@@ -1,4 +1,5 @@
 pub mod Rows
+pub mod Sources
 pub mod Sum
 pub mod Places
 pub mod Walk

@@ -3,21 +3,22 @@ ghost use Rattle.std.specs.Prelude.{◌≡◌, ◌+◌, ◌*◌, ◌^◌, ◌<�
 ghost use Rattle.arithmetic.specs.Places.{keeps_at, loses_at, wide};
 ghost use Rattle.algebra.specs.Windows.{first, span};
 ghost use Rattle.arithmetic.specs.Walk.{pick};
+ghost use Rattle.arithmetic.specs.Sources.{lent, stored};
 
-// Words to read: of the store or of a lent list, from a place on.
-// Stays: a flag beside the list, since ProductReady and ProductDone of products tell operands by both, and what they say may not change.
+// Words to read: of a lent list or, where there is none, of the store, from a place on.
 #[derive(Clone, Copy)]
 pub struct Source<'a> {
-    pub lent: &'a [i64],
-    pub stored: bool,
+    pub lent: Option<&'a [i64]>,
     pub at: usize,
 }
 
-// The list that such words stand in, beside the store w.
-pub fn words_of<'a>(s: Source<'a>, w: &'a [i64]) -> &'a [i64]
-    ensures { result.now ≡ pick s.entry.stored w.now s.entry.lent.now }
-{
-    if s.stored { w } else { s.lent }
+impl<'a> Source<'a> {
+    // The list that such words stand in, beside the store w.
+    pub fn words(self, w: &'a [i64]) -> &'a [i64]
+        ensures { result.now ≡ pick (stored self.entry) w.now (lent self.entry) }
+    {
+        self.lent.unwrap_or(w)
+    }
 }
 
 // The place of level i + 1.

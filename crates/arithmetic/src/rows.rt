@@ -8,6 +8,7 @@ use tower::form::coefficient_at;
 use tower::store::{is_zero, put_word};
 
 // A degree word for c coefficients up to the highest.
+// Stays: `as`, where the clause says that c fits.
 pub fn put_degree(w: &mut [i64], at: usize, c: usize)
     requires { (at < length w.old) × (c < 2 ^ 63) }
     ensures { Put at (degree_word c ∷ []) w.old w.new }

@@ -9,7 +9,7 @@ use tower::sizes::{degree_at, size_at};
 use tower::words::count_at;
 
 // u + v, or u - v where neg.
-// Stays: a bool and no closure, since Gained and RowGained, by which products and the kernel promise, tell the two by it.
+// Stays: a bool and no closure, since WordGained, Gained and RowGained tell the two by it, and products works the sign out at each place.
 pub fn gain(neg: bool, u: u64, v: u64, p: u64) -> u64
     requires { Operands p u v }
     ensures { Below p (gained_number neg p u v) result }

@@ -1,5 +1,5 @@
 // Sums of products of residues over the coefficients of elements, for one place of each level: two lists are only read, the sum is a number in two
-// words. The pairs of a run and the windows of four levels are five ways through the words, and each way is one turn of the same loop, over numbers alone.
+// words. The pairs of a run and the windows of four levels are five ways through the words, and the loop over one stands inside that over the next: it is written once, over numbers alone.
 ghost use Rattle.std.specs.Prelude.{◌≡◌, ◌*◌, ◌^◌, ◌<◌, ◌≤◌, List, [], ◌∷◌};
 ghost use Rattle.residue.specs.Number.{Added};
 ghost use Rattle.residue.specs.Word.{at};
@@ -12,7 +12,7 @@ use residue::{Accumulator, fold, get_residue};
 use tower::sizes::{degree_at, size_at};
 
 // The product of the words at two places.
-// Stays: two lists and their places side by side, since run_at and dot_at are told by places in whole lists, so that each clause would take a struct of them apart.
+// Stays: two lists and their places side by side, here and below, since each loop moves both places on; a struct of them would be made anew at each pair.
 pub fn product_at(x: &[i64], a: usize, y: &[i64], b: usize) -> u64
     requires { Readable x.now a × Readable y.now b }
     ensures { result ≡ at x.now a * at y.now b }
@@ -83,6 +83,7 @@ pub fn dot(
     requires { DotReady x.now a y.now b n step s.lo s.hi }
     ensures { Added n (dot_at x.now y.now n step a b) s.lo s.hi result.lo result.hi }
 {
+    // a box has some pair
     if n == 0 {
         return s;
     }
@@ -97,7 +98,7 @@ pub struct Window {
 }
 
 // That of level l + 1 in elements of level i; a level that is not below i has one pair, at 0.
-// Stays: degrees and sizes as two arrays by value, here and above, as document 01 has them.
+// Stays: degrees and sizes as two arrays by value, here and in `sum_pairs`, as document 01 has them.
 pub fn window_at(i: usize, l: usize, d: [usize; 4], z: [usize; 5], m: [usize; 4]) -> Window
     requires { (l < 4) × Places d z m i × (size d i ≤ 2 ^ 32) }
     ensures { result ≡ window_at d m i l }

@@ -9,7 +9,7 @@ use Rattle.std.specs.Prelude.{◌≡◌, ℕ, ◌+◌, ◌%◌, ◌^◌, [], ◌
 use Rattle.lines.specs.Kept.{Stepped}
 use Rattle.calculator.specs.declared.state.Calculator.{Calculator}
 
--- LINE_BYTES of src/main.rt
+-- LINE_BYTES of src/state.rt
 abbrev pub line_bytes : ℕ
 line_bytes = 8193
 

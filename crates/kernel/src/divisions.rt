@@ -57,18 +57,16 @@ pub fn parted(
     ensures { let x = tower.entry in DivisionGiven x.p x.n x.e x.t.now a.old b.now q.old v.old (answer_of result) a.new q.new v.new }
 {
     let s = division_checked(tower, a, b, q, v)?;
-    let d = s.degrees;
-    let z = s.sizes;
     let p = tower.modulus();
     let k = s.coefficients(a);
     let l = s.coefficients(q);
     if s.levels == 0 {
         // level 0 needs one word to work in, and no work words
         let mut word = [0i64; 1];
-        divide(0, k, l, d, z, p, tower.t, a, b, q, &mut word);
+        divide(0, k, l, s.degrees, s.sizes, p, tower.t, a, b, q, &mut word);
         return Ok(Answer::Done);
     }
-    divide(s.levels, k, l, d, z, p, tower.t, a, b, q, v);
-    clear(v, 0, product_work(s.levels, d));
+    divide(s.levels, k, l, s.degrees, s.sizes, p, tower.t, a, b, q, v);
+    clear(v, 0, product_work(s.levels, s.degrees));
     Ok(Answer::Done)
 }

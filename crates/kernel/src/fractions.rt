@@ -1,4 +1,4 @@
-// The residue of a fraction whose denominator is positive.
+// The residue of a fraction modulo p; a denominator that is not positive, or that shares a divisor above 1 with p, is refused.
 ghost use Rattle.std.specs.Prelude.{◌≡◌, ◌<◌, ◌^◌};
 ghost use Rattle.kernel.specs.Fractions.{Quotient, fraction_of};
 ghost use Rattle.kernel.specs.Promises.{FractionGiven};

@@ -64,8 +64,7 @@ pub fn gcd_checked(
     if s.coefficients(g) < gcd_room(count_at(a, 0), count_at(b, 0)) {
         return Err(Refusal::SmallAnswer);
     }
-    let d = s.degrees;
-    if v.len() < gcd_needed(s.levels, d, s.size, a, b) {
+    if v.len() < gcd_needed(s.levels, s.degrees, s.size, a, b) {
         return Err(Refusal::SmallWork);
     }
     Ok(s)
@@ -82,8 +81,6 @@ pub fn sought(
     requires { ShapeOf tower.n tower.e s × SoughtReady tower.p tower.n tower.e tower.t.now a.now b.now v.old }
     ensures { let x = tower.entry in SoughtDone x.p x.n x.e x.t.now a.now b.now v.old v.new result }
 {
-    let d = s.degrees;
-    let z = s.sizes;
     let ca = count_at(a, 0);
     let cb = count_at(b, 0);
     let row = coefficient_at(0, ca, s.size) + 1;
@@ -104,11 +101,11 @@ pub fn sought(
     };
     let top = unit + 2 * s.size;
     let words = Source {
-        lent: tower.t,
-        stored: false,
+        lent: Some(tower.t),
         at: 0,
     };
-    gcd(s.levels, d, z, tower.modulus(), words, x, y, v, top)
+    let p = tower.modulus();
+    gcd(s.levels, s.degrees, s.sizes, p, words, x, y, v, top)
 }
 
 // The answer by what the sequence found: the words of a GCD copied into g, with zeros behind them, or a stop told.
@@ -122,13 +119,11 @@ pub fn found_answer(
     requires { FoundReady found s v.now g.old f.old }
     ensures { FoundGiven found s v.now g.old f.old result g.new f.new }
 {
-    let d = s.degrees;
-    let z = s.sizes;
     match found {
         Ok(Greatest { at, count }) => {
             let k = s.coefficients(g);
             copy_in(v, at, g, 1, count * s.size);
-            finish(s.levels, k, count, k - count, d, z, g);
+            finish(s.levels, k, count, k - count, s.degrees, s.sizes, g);
             Answer::Done
         }
         Err(stop) => stopped(stop, s, v, f),
@@ -147,8 +142,7 @@ pub fn found(
     ensures { let x = tower.entry in GcdGiven x.p x.n x.e x.t.now a.now b.now g.old f.old v.old (answer_of result) g.new f.new v.new }
 {
     let s = gcd_checked(tower, a, b, g, f, v)?;
-    let d = s.degrees;
-    let needed = gcd_needed(s.levels, d, s.size, a, b);
+    let needed = gcd_needed(s.levels, s.degrees, s.size, a, b);
     let o = sought(tower, s, a, b, v);
     let answer = found_answer(o, s, v, g, f);
     clear(v, 0, needed);

@@ -19,6 +19,7 @@ use tower::store::{clear, copy_in, is_zero};
 use tower::work::inverse_work;
 
 // All three lists have s words.
+// Stays: one function over an array of lengths takes a closure and an array at each call, and is no plainer than this line.
 pub fn three_elements(s: usize, k: usize, l: usize, m: usize) -> bool
     ensures { result ≡ (eqb k s && (eqb l s && eqb m s)) }
 {
@@ -36,15 +37,13 @@ pub fn inverse_checked(
     ensures { let x = tower.entry in Checked (inverse_number x.p x.n x.e x.t.now c.now r.now f.now v.now) x.n x.e result }
 {
     let s = tower.checked()?;
-    let d = s.degrees;
-    let z = s.sizes;
     if !three_elements(s.size, c.len(), r.len(), f.len()) {
         return Err(Refusal::BadLength);
     }
-    if !element(s.levels, d, z, tower.modulus(), c, 0) {
+    if !element(s.levels, s.degrees, s.sizes, tower.modulus(), c, 0) {
         return Err(Refusal::BadForm);
     }
-    if v.len() < inverse_work(s.levels, d) {
+    if v.len() < inverse_work(s.levels, s.degrees) {
         return Err(Refusal::SmallWork);
     }
     if is_zero(s.levels, c, 0) {
@@ -64,17 +63,17 @@ pub fn inverted_number(
     requires { ShapeOf tower.n tower.e s × NumberReady tower.p tower.n tower.e tower.t.now c.now r.old f.old }
     ensures { let x = tower.entry in NumberGiven x.p x.n x.e x.t.now c.now r.old f.old result r.new f.new }
 {
-    let d = s.degrees;
-    let z = s.sizes;
     let q = tower.modulus();
     let words = Source {
-        lent: tower.t,
-        stored: false,
+        lent: Some(tower.t),
         at: 0,
     };
-    let element = Source { lent: c, ..words };
+    let element = Source {
+        lent: Some(c),
+        at: 0,
+    };
     let mut word = [0i64; 1];
-    match invert(0, d, z, q, words, element, &mut word, 0, 1) {
+    match invert(0, s.degrees, s.sizes, q, words, element, &mut word, 0, 1) {
         Ok(()) => {
             copy_in(&word, 0, r, 0, 1);
             Answer::Done
@@ -116,17 +115,17 @@ pub fn inverted_element(
         × (inverse_number tower.p tower.n tower.e tower.t.now c.now r.old f.old v.old ≡ 0) }
     ensures { let x = tower.entry in InverseGiven x.p x.n x.e x.t.now c.now r.old f.old v.old result r.new f.new v.new }
 {
-    let d = s.degrees;
-    let z = s.sizes;
-    let i = s.levels;
-    let needed = inverse_work(i, d);
+    let needed = inverse_work(s.levels, s.degrees);
     let words = Source {
-        lent: tower.t,
-        stored: false,
+        lent: Some(tower.t),
         at: 0,
     };
-    let element = Source { lent: c, ..words };
-    let ended = run(i, d, z, tower.modulus(), words, element, v, 0);
+    let element = Source {
+        lent: Some(c),
+        at: 0,
+    };
+    let p = tower.modulus();
+    let ended = run(s.levels, s.degrees, s.sizes, p, words, element, v, 0);
     let answer = ended_answer(ended, s, v, r, f);
     clear(v, 0, needed);
     answer

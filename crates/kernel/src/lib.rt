@@ -35,6 +35,7 @@ use towers::Tower;
 use views::leading;
 
 // Done, a shown factor with its level, or a refusal with its number.
+// Stays: a refusal is a number here, since document 01 says "the answer enum carries the level or the refusal number".
 #[derive(Clone, Copy)]
 pub enum Answer {
     Done,
@@ -43,7 +44,7 @@ pub enum Answer {
 }
 
 // The work sizes M(N), I(N) and the GCD's number; zeros beside a refusal.
-// Stays: a public type, of which the promises and theorems of specs/Promises.antt speak.
+// Stays: the clause `SizesGiven` and the theorem `sizes_determined` of specs/Promises.antt hold the answer beside the numbers, zeros when refused.
 #[derive(Clone, Copy)]
 pub struct WorkSizes {
     pub answer: Answer,
@@ -53,7 +54,7 @@ pub struct WorkSizes {
 }
 
 // The residue of a fraction; 0 beside a refusal.
-// Stays: a public type, of which the promises and theorems of specs/Promises.antt speak.
+// Stays: the clause `FractionGiven` and the theorem `fraction_determined` of specs/Promises.antt hold the answer beside the residue, 0 when refused.
 #[derive(Clone, Copy)]
 pub struct FractionResidue {
     pub answer: Answer,
@@ -89,9 +90,8 @@ pub fn work_sizes(n: i64, e: [i64; 4], a: i64, b: i64) -> WorkSizes
             };
         }
     };
-    let d = s.degrees;
-    let product = product_work(s.levels, d);
-    let inverse = inverse_work(s.levels, d);
+    let product = product_work(s.levels, s.degrees);
+    let inverse = inverse_work(s.levels, s.degrees);
     let gcd = gcd_work(count(a), count(b), s.size, inverse);
     WorkSizes {
         answer: Answer::Done,

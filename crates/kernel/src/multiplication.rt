@@ -21,17 +21,15 @@ pub fn multiplied(
     ensures { let x = tower.entry in ProductGiven x.p x.n x.e x.t.now a.now b.now c.old v.old (answer_of result) c.new v.new }
 {
     let s = slots_checked(false, tower, a, b, c, v)?;
-    let d = s.degrees;
-    let z = s.sizes;
     let q = tower.modulus();
     let k = s.coefficients(c);
     if s.levels == 0 {
         // level 0 needs one word to work in, and no work words
         let mut word = [0i64; 1];
-        multiply(0, k, d, z, q, tower.t, a, b, c, &mut word);
+        multiply(0, k, s.degrees, s.sizes, q, tower.t, a, b, c, &mut word);
         return Ok(Answer::Done);
     }
-    multiply(s.levels, k, d, z, q, tower.t, a, b, c, v);
-    clear(v, 0, product_work(s.levels, d));
+    multiply(s.levels, k, s.degrees, s.sizes, q, tower.t, a, b, c, v);
+    clear(v, 0, product_work(s.levels, s.degrees));
     Ok(Answer::Done)
 }

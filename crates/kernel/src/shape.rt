@@ -26,9 +26,8 @@ impl Shape {
         requires { Known self }
         ensures { result ≡ tower_form p self.degrees self.levels t.now }
     {
-        let d = self.degrees;
-        let z = self.sizes;
-        t.len() == tower_size(self.levels, d) && tower(self.levels, d, z, p, t)
+        t.len() == tower_size(self.levels, self.degrees)
+            && tower(self.levels, self.degrees, self.sizes, p, t)
     }
 
     // The coefficients of a slot.
@@ -44,9 +43,8 @@ impl Shape {
         requires { Known self × (slot_length self.size (length a.now) ≡ true) }
         ensures { result ≡ slot_form p self.degrees self.levels (slot_count self.size (length a.now)) a.now }
     {
-        let d = self.degrees;
-        let z = self.sizes;
-        row(self.levels, self.coefficients(a), d, z, p, a, 0)
+        let k = self.coefficients(a);
+        row(self.levels, k, self.degrees, self.sizes, p, a, 0)
     }
 
     // Both slots are in form.

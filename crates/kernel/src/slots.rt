@@ -13,6 +13,7 @@ use tower::words::count_at;
 use tower::work::product_work;
 
 // The coefficients that the answer of a product, or the quotient of a division, needs, from one more than the two degrees.
+// Stays: `room_needed` and `slots_number` of specs/Slots.antt, which the clauses here and of slots_checked cite, take `divides`.
 pub fn room_needed(divides: bool, ca: usize, cb: usize) -> usize
     requires { (ca ≤ 2 ^ 32) × (cb ≤ 2 ^ 32) }
     ensures { result ≡ room_needed divides ca cb }
@@ -57,8 +58,7 @@ pub fn slots_checked(
     if s.coefficients(c) < room_needed(divides, count_at(a, 0), count_at(b, 0)) {
         return Err(Refusal::SmallAnswer);
     }
-    let d = s.degrees;
-    if v.len() < product_work(s.levels, d) {
+    if v.len() < product_work(s.levels, s.degrees) {
         return Err(Refusal::SmallWork);
     }
     Ok(s)

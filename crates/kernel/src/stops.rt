@@ -25,10 +25,9 @@ pub fn stopped(stop: Stop, s: Shape, v: &[i64], f: &mut [i64]) -> Answer
     requires { StopReady stop s v.now f.old }
     ensures { StopGiven stop s v.now f.old result f.new }
 {
-    let z = s.sizes;
     match stop {
         Stop::Factor { level, at } => {
-            show(v, at, size_at(z, level), f);
+            show(v, at, size_at(s.sizes, level), f);
             Answer::Factor(level)
         }
         Stop::Long => Refusal::TooLong.into(),

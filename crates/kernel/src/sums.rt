@@ -58,13 +58,13 @@ pub fn sum_checked(tower: Tower<'_>, a: &[i64], b: &[i64]) -> Result<Shape, Refu
 }
 
 // a + b, or a - b where neg, in a's slot.
+// Stays: `SumGiven` of specs/Promises.antt, the clause of sum and of difference, takes `neg` too.
 pub fn gained(neg: bool, tower: Tower<'_>, a: &mut [i64], b: &[i64]) -> Result<Answer, Refusal>
     ensures { let x = tower.entry in SumGiven neg x.p x.n x.e x.t.now a.old b.now (answer_of result) a.new }
 {
     let s = sum_checked(tower, a, b)?;
-    let d = s.degrees;
-    let z = s.sizes;
     let k = s.coefficients(a);
-    gain_row(s.levels, k, neg, tower.modulus(), d, z, b, 0, a, 0);
+    let p = tower.modulus();
+    gain_row(s.levels, k, neg, p, s.degrees, s.sizes, b, 0, a, 0);
     Ok(Answer::Done)
 }

@@ -5,5 +5,4 @@ pub mod Done
 pub mod States
 pub mod Lent
 pub mod Lending
-pub mod Stepping
 pub mod Operations

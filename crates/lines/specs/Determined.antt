@@ -2,8 +2,9 @@
 --
 -- SameStep, stepped_determined == two results that Stepped allows for a line have the same bytes and states
 -- stepped_runs                 == lines answered one after the other print what `run` says
--- Missing, field_missing       == "An operation that lacks field .. prints its name and `missing` only"
-use Rattle.std.specs.Prelude.{ℕ, suc, None, List, ◌∷◌, ◌++◌, ◌≡◌, refl, ℤ, take}
+-- Missing, words_missing       == "prints its name and `missing` only": so each operation in every state without words of a, started or not, whatever its p
+-- field_missing                == "An operation that lacks field .. prints its name and `missing` only"
+use Rattle.std.specs.Prelude.{ℕ, suc, None, List, [], ◌∷◌, ◌++◌, ◌≡◌, refl, ℤ, take}
 use Rattle.std.proofs.Common.{sym, ◌∙◌}
 use Rattle.std.proofs.Math.Path.{ap₂}
 use Rattle.lines.specs.declared.Kept.{Kept}
@@ -36,19 +37,22 @@ module _ {text : List ℕ} {number : ℕ} {k : Kept} {tower a b : List ℤ} {out
   unfolding run
   stepped_runs x ls = ap₂ (λ t s. t ++ run s (suc number) ls) (sym x.answer.stands) (sym x.state)
 
--- ---- without a field
+-- ---- without a and without a field
 pub record Missing (s : State) (number : ℕ) : Type 0 where
   pub of_gcd : printed s number gcd ≡ missing_text name_gcd
   pub of_div : printed s number div ≡ missing_text name_div
   pub of_mul : printed s number mul ≡ missing_text name_mul
   pub of_inv : printed s number inv ≡ missing_text name_inv
 
+-- a state that holds no words of a, started or not, whatever its p is
+pub words_missing : (s : State) → s.a ≡ [] → (number : ℕ) → Missing s number
+words_missing s none number = record {
+  of_gcd = rw none (refl {a = missing_text name_gcd});
+  of_div = rw none (refl {a = missing_text name_div});
+  of_mul = rw none (refl {a = missing_text name_mul});
+  of_inv = rw none (refl {a = missing_text name_inv});
+}
+
 pub field_missing : {k : Kept} → Sound k → k.field ≡ None → (tower a b : List ℤ) (number : ℕ) → Missing (state_of k tower a b) number
-field_missing sound off tower a b number =
-    let none = (sound.none off).0 in
-    record {
-      of_gcd = rw none (refl {a = missing_text name_gcd});
-      of_div = rw none (refl {a = missing_text name_div});
-      of_mul = rw none (refl {a = missing_text name_mul});
-      of_inv = rw none (refl {a = missing_text name_inv});
-    }
+field_missing {k} sound off tower a b number =
+    words_missing (state_of k tower a b) (rw (sound.none off).0 (refl {a = []})) number

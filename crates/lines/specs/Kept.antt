@@ -1,11 +1,11 @@
 -- What the program keeps between lines, as a state, and what its functions ask for and give.
 --
 -- state_of, Sound              == what is kept as a state, and what holds of it
--- Begins, Extended, AllowedBy, KeptBy == what is kept at the start, after `ext`, whether a line is allowed, and what is kept after it
+-- Begins, Extended, AllowedBy, KeptBy == what is kept at the start, after `ext`, a line where it is allowed, and what is kept after it
 -- WordStore .. OutStore == the lengths of the stores
 -- RingKept              == what an operation runs over
 -- Told, Stepped         == what is printed for a line; a line read and answered
-use Rattle.std.specs.Prelude.{ℕ, suc, ◌+◌, ◌*◌, ◌<◌, ◌≤◌, Bool, true, cond, Option, Some, None, List, ◌≡◌, ℤ, pos, length, take, drop, set}
+use Rattle.std.specs.Prelude.{ℕ, suc, ◌+◌, ◌*◌, ◌<◌, ◌≤◌, true, Option, Some, None, List, ◌≡◌, ℤ, pos, length, take, drop, set}
 use Rattle.std.specs.Option.{is_some}
 use Rattle.text.specs.Appending.{Appended}
 use Rattle.text.specs.Fields.{most_words}
@@ -14,7 +14,7 @@ use Rattle.lines.specs.declared.Line.{Line}
 use Rattle.lines.specs.declared.Ring.{Ring}
 use Rattle.lines.specs.declared.Line.TheVariants.{Field, Ext, First, Second, Gcd, Div, Mul, Inv}
 use Rattle.lines.specs.Answers.{out_bytes}
-use Rattle.lines.specs.Reading.{meaning_of, meant, Carried, said, Carries, unreadable}
+use Rattle.lines.specs.Reading.{meaning_of, said, Carries}
 use Rattle.lines.specs.Steps.{State, allowed, after, answer_words, most_element, work_words, printed}
 
 -- ---- what the program keeps: the tower's words fill their store from the end, a and b are the first words of theirs
@@ -81,19 +81,15 @@ Allowed k Div = Unit {0}
 Allowed k Mul = Unit {0}
 Allowed k Inv = Unit {0}
 
-pub record AllowedBy (line : Line) (k : Kept) (r : Bool) : Type 0 where
-  pub allows : r ≡ true → Allowed k line
-  pub means : (w tower a b : List ℤ) → cond r (meant line w) unreadable ≡ allowed (state_of k tower a b) (meant line w)
-
--- a line that is readable and allowed
+-- one that is unreadable is allowed
 abbrev pub Allows : Kept → Option Line → Type 0
 Allows k None = Unit {0}
 Allows k (Some line) = Allowed k line
 
-pub record Readable (text : List ℕ) (k : Kept) (w : List ℤ) (r : Option Line) : Type 0 where
-  pub carried : Carries r
+pub record AllowedBy (line : Option Line) (k : Kept) (r : Option Line) : Type 0 where
+  pub carried : Carries line → Carries r
   pub allows : Allows k r
-  pub means : (tower a b : List ℤ) → said r w ≡ allowed (state_of k tower a b) (meaning_of text)
+  pub means : (w tower a b : List ℤ) → said r w ≡ allowed (state_of k tower a b) (said line w)
 
 -- ---- the lengths of the stores
 abbrev pub WordStore : List ℤ → Type 0
@@ -112,15 +108,15 @@ abbrev pub OutStore : List ℕ → Type 0
 OutStore s = out_bytes ≤ length s
 
 -- ---- what is kept after a line
-pub record KeepReady (line : Line) (k : Kept) (words : List ℤ) : Type 0 where
+pub record KeepReady (line : Option Line) (k : Kept) (words : List ℤ) : Type 0 where
   pub sound : Sound k
-  pub carried : Carried line
-  pub allows : Allowed k line
+  pub carried : Carries line
+  pub allows : Allows k line
   pub words_long : WordStore words
 
-pub record KeptBy (line : Line) (k : Kept) (words tower a b : List ℤ) (r : Kept) (tower' a' b' : List ℤ) : Type 0 where
+pub record KeptBy (line : Option Line) (k : Kept) (words tower a b : List ℤ) (r : Kept) (tower' a' b' : List ℤ) : Type 0 where
   pub sound : Sound r
-  pub state : state_of r tower' a' b' ≡ after (state_of k tower a b) (meant line words)
+  pub state : state_of r tower' a' b' ≡ after (state_of k tower a b) (said line words)
 
 -- ---- a line answered
 -- what an operation runs over
@@ -130,9 +126,9 @@ pub record RingKept (k : Kept) (tower : List ℤ) (r : Ring) : Type 0 where
   pub e_is : r.e ≡ k.degrees
   pub t_is : r.t.now ≡ drop k.tower tower
 
--- a line is answered, whatever its number is and the store of its words holds
-pub record Told (line : Line) (k : Kept) (tower a b : List ℤ) (out out' : List ℕ) (r : ℕ) : Type 0 where
-  pub tells : (number : ℕ) (w : List ℤ) → Appended 0 (printed (state_of k tower a b) number (meant line w)) out out' r
+-- a line is answered, whatever the store of its words holds
+pub record Told (line : Option Line) (number : ℕ) (k : Kept) (tower a b : List ℤ) (out out' : List ℕ) (r : ℕ) : Type 0 where
+  pub tells : (w : List ℤ) → Appended 0 (printed (state_of k tower a b) number (said line w)) out out' r
 
 -- the line of a number and these bytes: its answer is the first bytes of out, as many as are told, and what is kept after it
 pub record Stepped (text : List ℕ) (number : ℕ) (k : Kept) (tower a b : List ℤ) (r : Kept) (told : ℕ) (tower' a' b' : List ℤ) (out out' : List ℕ) : Type 0 where

@@ -60,6 +60,7 @@ pub fn answer_line(
 }
 
 // The GCD of a and b, in g.
+// Stays: four functions, this and those below, and no generic one, since each hands other lists to another call of the kernel.
 pub fn gcd(
     ring: Ring,
     a: &[i64],

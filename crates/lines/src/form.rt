@@ -1,4 +1,6 @@
 // The words of elements and slots, printed by form: which of them are degree words, and which are residues.
+//
+// Stays: how many bytes are held goes beside the bytes, for the reason that src/bytes.rt of text gives.
 ghost use Rattle.std.specs.Prelude.{List, ℕ, ◌+◌, ◌≤◌, length};
 ghost use Rattle.tower.specs.Ready.{Sized};
 ghost use Rattle.text.specs.Appending.{Appended};
@@ -32,7 +34,8 @@ pub fn put_residue(out: &mut [u8], held: usize, w: i64) -> usize
 
 // A degree word behind a tab.
 //
-// Stays: a function beside `put_residue`. The definitions `residue_text` and `degree_text` of specs/Printing.antt, which may not change, tell them apart.
+// Stays: a function beside `put_residue`, which does the same today. docs/DECISIONS.md, "Printing goes by form", keeps the two apart: a later request changes
+// how residues are printed, and degree words stay.
 pub fn put_degree(out: &mut [u8], held: usize, w: i64) -> usize
     requires { held + 21 ≤ length out.old }
     ensures { Appended held (degree_text w) out.old out.new result }

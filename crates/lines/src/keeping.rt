@@ -52,36 +52,37 @@ pub fn extended(k: Kept, degree: i64, n: usize) -> Kept
     }
 }
 
-// What is kept after a line that is allowed here; the words that it carries stand in words.
-pub fn keep(line: Line, k: Kept, words: &[i64], s: &mut Stores) -> Kept
+// What is kept after a line that is allowed here; the words that it carries stand in words. One that is unreadable changes nothing.
+pub fn keep(line: Option<Line>, k: Kept, words: &[i64], s: &mut Stores) -> Kept
     requires { KeepReady line k words.now }
     ensures { KeptBy line k words.now s.old.tower s.old.a s.old.b result s.new.tower s.new.a s.new.b }
 {
     match line {
-        Line::Field(p) => fresh(p),
-        Line::Ext(n) => {
+        None => k,
+        Some(Line::Field(p)) => fresh(p),
+        Some(Line::Ext(n)) => {
             s.tower[k.tower - n..k.tower].copy_from_slice(&words[..n]);
             extended(k, words[0], n)
         }
-        Line::First(n) => {
+        Some(Line::First(n)) => {
             s.a[..n].copy_from_slice(&words[..n]);
             Kept { a: n, ..k }
         }
-        Line::Second(n) => {
+        Some(Line::Second(n)) => {
             s.b[..n].copy_from_slice(&words[..n]);
             Kept { b: n, ..k }
         }
-        Line::Gcd | Line::Div | Line::Mul | Line::Inv => k,
+        Some(Line::Gcd | Line::Div | Line::Mul | Line::Inv) => k,
     }
 }
 
-// Whether what is kept allows the line: ext and poly need a field, and there is no fifth ext.
-pub fn allowed(line: Line, k: Kept) -> bool
+// The line, where what is kept allows it: ext and poly need a field, and a fifth ext is unreadable.
+pub fn allowed(line: Option<Line>, k: Kept) -> Option<Line>
     ensures { AllowedBy line k result }
 {
-    match line {
-        Line::Ext(_) => k.field.is_some() && k.levels < MOST_LEVELS,
-        Line::First(_) | Line::Second(_) => k.field.is_some(),
-        Line::Field(_) | Line::Gcd | Line::Div | Line::Mul | Line::Inv => true,
+    match line? {
+        Line::Ext(_) if k.field.is_none() || MOST_LEVELS <= k.levels => None,
+        Line::First(_) | Line::Second(_) if k.field.is_none() => None,
+        line => Some(line),
     }
 }

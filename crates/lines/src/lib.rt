@@ -30,8 +30,9 @@ pub enum Line {
 // What is kept between lines, beside the words: the p of the field; the levels and their degrees; where the tower's words begin in their store, which they
 // fill from the end; and how many words a and b have.
 //
-// Stays: a and b are numbers and no Option. `State` of specs/Steps.antt, which may not change, holds the list of no words where there is none. And what
-// holds between lines (`Sound` of specs/Kept.antt) is no invariant of the type: `allowed` and `both` take what is kept without it.
+// Stays: a and b are counts and no Option, which is no plainer: `&s.a[..k.a]` in steps.rt and `take k.a` in specs/Kept.antt want the number, and 0 is a count.
+//
+// Stays: what holds between lines (`Sound` of specs/Kept.antt) is no invariant of the type, as `allowed` and `both` take what is kept without it.
 #[derive(Clone, Copy)]
 pub struct Kept {
     pub field: Option<i64>,

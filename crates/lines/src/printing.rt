@@ -1,4 +1,6 @@
 // What is printed: slots, elements and factors, and the lines of answers.
+//
+// Stays: how many bytes are held goes beside the bytes, for the reason that src/bytes.rt of text gives.
 ghost use Rattle.std.specs.Prelude.{◌+◌, ◌≤◌, [], ◌∷◌, ◌++◌, length};
 ghost use Rattle.tower.specs.Limits.{degrees_of};
 ghost use Rattle.kernel.specs.Refusals.{done, factor, refused};
@@ -102,6 +104,8 @@ pub fn inverse_line(out: &mut [u8], i: usize, e: [i64; 4], x: &[i64]) -> usize
 }
 
 // The line of a shown factor.
+//
+// Stays: `as u64`, as std has no `From<usize>` for u64.
 pub fn factor_line(out: &mut [u8], name: &[u8], level: usize, e: [i64; 4], f: &[i64]) -> usize
     requires { ElementReady (length name.now + 40) level e f.now out.old }
     ensures { Appended 0 (answer_text name.now (degrees_of e) (factor level) [] f.now) out.old out.new result }
@@ -113,6 +117,8 @@ pub fn factor_line(out: &mut [u8], name: &[u8], level: usize, e: [i64; 4], f: &[
 }
 
 // The line of a refusal.
+//
+// Stays: `as u64`, as std has no `From<usize>` for u64.
 pub fn refused_line(out: &mut [u8], name: &[u8], number: usize) -> usize
     requires { length name.now + 40 ≤ length out.old }
     ensures { Appended 0 (answer_text name.now [] (refused number) [] []) out.old out.new result }

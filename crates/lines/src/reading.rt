@@ -1,4 +1,7 @@
 // What a line says.
+//
+// Stays: names are told apart by `same`, in chains of `if`, and by no match on the texts. It was tried in `operation_line`: the last arm of the match is met in
+// twenty ways, by lengths and bytes, and the facts of most of them have no name that a proof may cite.
 ghost use Rattle.std.specs.Prelude.{◌≤◌, length};
 ghost use Rattle.text.specs.Fields.{fields_of, fields_at, words_of, most_bytes, most_words};
 ghost use Rattle.lines.specs.Reading.{field_says, ext_says, poly_says, meaning_of, Says, OperationSaid};
@@ -50,8 +53,6 @@ pub fn poly_line(text: &[u8], from: usize, words: &mut [i64]) -> Option<Line>
 }
 
 // An operation with a and b, or with a.
-//
-// Stays: no match on the texts. Its last arm is met in twenty ways, by lengths and bytes, and the facts of most of them have no name that a proof may cite.
 pub fn operation_line(name: &[u8], operands: &[u8]) -> Option<Line>
     ensures { OperationSaid result name.now (fields_of operands.now) }
 {

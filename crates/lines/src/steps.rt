@@ -2,7 +2,7 @@
 ghost use Rattle.std.specs.Prelude.{◌+◌, ◌≤◌, ◌≡◌, ◌&&◌, [], true, ltb, length};
 ghost use Rattle.std.specs.Option.{is_some};
 ghost use Rattle.text.specs.Appending.{Appended};
-ghost use Rattle.lines.specs.Kept.{state_of, Sound, OutStore, RingKept, WordStore, Readable, Told, Stepped};
+ghost use Rattle.lines.specs.Kept.{state_of, Sound, OutStore, RingKept, Told, Stepped};
 ghost use Rattle.lines.specs.Reading.{gcd, div, mul, inv, unreadable};
 ghost use Rattle.lines.specs.Steps.{nothing, missing_text, printed};
 
@@ -40,6 +40,8 @@ pub fn both(k: Kept) -> bool
 }
 
 // What an operation runs over, where there is a field.
+//
+// Stays: `as u64`, as std has no `From<usize>` for u64.
 fn ring_of(k: Kept, tower: &[i64]) -> Ring
     requires { Sound k × (is_some k.field ≡ true) × (k.tower ≤ length tower.now) }
     ensures { RingKept k tower.now result }
@@ -54,6 +56,9 @@ fn ring_of(k: Kept, tower: &[i64]) -> Ring
 }
 
 // The answer of `gcd`.
+//
+// Stays: four functions `tell_`, no generic one. Each lends other lists of the stores to the kernel: `gcd` a slot and a factor, `div` a copy of a and a slot,
+// `mul` a slot, `inv` two elements.
 pub fn tell_gcd(k: Kept, s: &Stores, room: &mut Room, out: &mut [u8]) -> usize
     requires { Sound k × OutStore out.old }
     ensures { Appended 0 (printed (state_of k s.now.tower s.now.a s.now.b) 0 gcd) out.old out.new result }
@@ -142,27 +147,26 @@ pub fn tell_inv(k: Kept, s: &Stores, room: &mut Room, out: &mut [u8]) -> usize
     )
 }
 
-// The answer of a line that is allowed here; field, ext and poly have none.
-pub fn tell(line: Line, k: Kept, s: &Stores, room: &mut Room, out: &mut [u8]) -> usize
+// The answer of a line that is allowed here, or that is unreadable; field, ext and poly have none.
+pub fn tell(
+    line: Option<Line>,
+    number: u64,
+    k: Kept,
+    s: &Stores,
+    room: &mut Room,
+    out: &mut [u8],
+) -> usize
     requires { Sound k × OutStore out.old }
-    ensures { Told line k s.now.tower s.now.a s.now.b out.old out.new result }
+    ensures { Told line number k s.now.tower s.now.a s.now.b out.old out.new result }
 {
     match line {
-        Line::Field(_) | Line::Ext(_) | Line::First(_) | Line::Second(_) => 0,
-        Line::Gcd => tell_gcd(k, s, room, out),
-        Line::Div => tell_div(k, s, room, out),
-        Line::Mul => tell_mul(k, s, room, out),
-        Line::Inv => tell_inv(k, s, room, out),
+        None => unreadable(out, number),
+        Some(Line::Field(_) | Line::Ext(_) | Line::First(_) | Line::Second(_)) => 0,
+        Some(Line::Gcd) => tell_gcd(k, s, room, out),
+        Some(Line::Div) => tell_div(k, s, room, out),
+        Some(Line::Mul) => tell_mul(k, s, room, out),
+        Some(Line::Inv) => tell_inv(k, s, room, out),
     }
-}
-
-// What the line says, where it is readable and what is kept allows it.
-fn readable(text: &[u8], k: Kept, words: &mut [i64]) -> Option<Line>
-    requires { WordStore words.old }
-    ensures { Readable text.now k words.new result }
-{
-    let line = read_line(text, words)?;
-    if allowed(line, k) { Some(line) } else { None }
 }
 
 // The line of this number and these bytes: what is kept after it, and how many of the first bytes of out are its answer.
@@ -178,9 +182,7 @@ pub fn step(
     ensures { Stepped text.now number k s.old.tower s.old.a s.old.b result.0 result.1 s.new.tower s.new.a s.new.b out.old out.new }
 {
     let mut words = [0i64; MOST_WORDS];
-    let Some(line) = readable(text, k, &mut words) else {
-        return (k, unreadable(out, number));
-    };
-    let told = tell(line, k, s, room, out);
+    let line = allowed(read_line(text, &mut words), k);
+    let told = tell(line, number, k, s, room, out);
     (keep(line, k, &words, s), told)
 }

@@ -1,4 +1,5 @@
 // Product and division of slots. Each coefficient is a sum of products, made in a store to work in and copied out.
+// Stays: degrees and sizes go as two arrays by value through every call, since document 01 has them so.
 ghost use Rattle.std.specs.Prelude.{◌≡◌, ◌+◌, ◌^◌, ◌≤◌};
 ghost use Rattle.polynomials.specs.Slots.{product_count, FinishReady, Finished, MultiplyReady, Multiplied, MultiplyAtReady, MultipliedAt};
 ghost use Rattle.polynomials.specs.Slots.{DivideReady, Parted, DivideRowReady, DividedRow, PlaceReady, Placed};
@@ -62,21 +63,18 @@ pub fn multiply_at(
     let n = span_of(ca, cb, j);
     let m = [0usize; 4];
     let e = Source {
-        lent: t,
-        stored: false,
+        lent: Some(t),
         at: 0,
     };
     let o = Operands {
         i,
         x: Source {
-            lent: a,
+            lent: Some(a),
             at: x,
-            ..e
         },
         y: Source {
-            lent: b,
+            lent: Some(b),
             at: y,
-            ..e
         },
         n,
     };
@@ -141,6 +139,10 @@ pub fn divide_row(
 {
     let s = size_at(z, i);
     let m = [0usize; 4];
+    let e = Source {
+        lent: Some(t),
+        at: 0,
+    };
     let high = cap - 1;
     copy_in(
         a,
@@ -154,22 +156,15 @@ pub fn divide_row(
         let y = coefficient_at(0, first_of(g, k), s);
         let n = span_of(g, cap - g, k);
         copy_in(a, coefficient_at(0, k, s), w, 0, s);
-        let e = Source {
-            lent: t,
-            stored: false,
-            at: 0,
-        };
         let o = Operands {
             i,
             x: Source {
-                lent: b,
+                lent: Some(b),
                 at: x,
-                ..e
             },
             y: Source {
-                lent: q,
+                lent: Some(q),
                 at: y,
-                ..e
             },
             n,
         };

@@ -104,11 +104,6 @@ pub picked_long : (within : Bool) (w w' x : List ℤ) → length w' ≡ length w
 picked_long true w w' x e = e
 picked_long false w w' x e = refl
 
--- no list is longer than both
-pub pick_long : (within : Bool) (w x : List ℤ) (n : ℕ) → length w < n → length x < n → length (pick within w x) < n
-pick_long true w x n h l = h
-pick_long false w x n h l = l
-
 pub inside_kept : (within : Bool) (w w' x : List ℤ) {a n top top' : ℕ} → length w' ≡ length w → top ≤ top'
     → Inside within (pick within w x) a n top → Inside within (pick within w' x) a n top'
 inside_kept within w w' x e h s = record { inside = omega (arith, s.inside, picked_long within w w' x e); below = λ q. omega (arith, s.below q) }

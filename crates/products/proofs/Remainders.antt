@@ -15,7 +15,7 @@ use native.Mathlib.Omega.{arith}
 use mathlib.Core.Path.{◌≡◌, refl, ap, sym, ◌∙◌, subst}
 use mathlib.Core.Bool.{Bool, true}
 use mathlib.Core.Logic.{◌⊎◌, inl, inr}
-use mathlib.Core.List.{List}
+use mathlib.Core.List.{List, []}
 use lib.IntN.{ℤ}
 use lib.Dec.{T}
 use lib.ListN.{length}
@@ -157,7 +157,7 @@ module _ {i : ℕ} {d z : List ℕ} {p : ℕ} {e : List ℤ} {e-in : Bool} {ea :
 
       -- the operands: the divisor's coefficients and the quotient's
       abbrev pairs : Two
-      pairs = two i y y_in (b + first q k * size d i) e true (a + (g + first g k) * size d i) n
+      pairs = two i y y_in (b + first q k * size d i) [] true (a + (g + first g k) * size d i) n
 
       given_now : (c : C)
           → Given p (stood c).p_pos d pairs (λ u. coef (group p (stood c).p_pos d i).𝟘 g (stood c).l (first q k + u)) (λ u. out c (g + (first g k + u))) i
@@ -257,11 +257,11 @@ module _ {i : ℕ} {d z : List ℕ} {p : ℕ} {e : List ℤ} {e-in : Bool} {ea :
 
       -- the code's operands
       abbrev taken : (f q n : ℕ) → Two
-      taken f q n = two i y y_in f e true q n
+      taken f q n = two i y y_in f [] true q n
 
-      pub falling_asks : {m : List ℕ} {f q n at : ℕ} → C → length m ≡ 4 → Counted d i b a g cap k f q n at
-          → ProductReady i d z p m e e-in ea (taken f q n) true w at top
-      falling_asks {m} c em l = rw (l.lefts, l.rights, l.many, l.here) (falling_product before c m em)
+      pub falling_asks : {m : List ℕ} {f q n at : ℕ} {o : Two} → C → length m ≡ 4 → Counted d i b a g cap k f q n at → o ≡ taken f q n
+          → ProductReady i d z p m e e-in ea o true w at top
+      falling_asks {m} c em l eo = rw (eo, l.lefts, l.rights, l.many, l.here) (falling_product before c m em)
 
       pub falling_rest : {m : List ℕ} {f q n at : ℕ} {w' : List ℤ} → length m ≡ 4 → Counted d i b a g cap k f q n at
           → ProductDone i d p m e e-in ea (taken f q n) true true w w' at top
@@ -296,7 +296,7 @@ module _ {i : ℕ} {d z : List ℕ} {p : ℕ} {e : List ℤ} {e-in : Bool} {ea :
       (λ c n q m. sym (row-top (ring p c.p_pos d i c.t) g c.l cap r.fits c.f n (omega (arith, r.some))))
 
   pub row_next : {k₁ : ℕ} {w : List ℤ} {m : List ℕ} {f q n at : ℕ} {w' : List ℤ} (some : 0 < k₁) → RowFalling i d p e e-in ea y y_in b g w₀ a cap top k₁ w
-      → length m ≡ 4 → Counted d i b a g cap (k₁ - 1) f q n at → ProductDone i d p m e e-in ea (two i y y_in f e true q n) true true w w' at top
+      → length m ≡ 4 → Counted d i b a g cap (k₁ - 1) f q n at → ProductDone i d p m e e-in ea (two i y y_in f [] true q n) true true w w' at top
       → RowFalling i d p e e-in ea y y_in b g w₀ a cap top (k₁ - 1) w'
   row_next {k₁} some s em l h =
       let left = falling_rest r some s em l h in

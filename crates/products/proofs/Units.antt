@@ -11,7 +11,7 @@ use native.Mathlib.Omega.{arith}
 use mathlib.Core.Path.{◌≡◌, refl, ap, sym, ◌∙◌, subst}
 use mathlib.Core.Bool.{Bool, true, false}
 use mathlib.Core.Logic.{◌⊎◌, inl, inr}
-use mathlib.Core.List.{List}
+use mathlib.Core.List.{List, []}
 use lib.IntN.{ℤ}
 use lib.Dec.{T}
 use lib.ListN.{length}
@@ -50,7 +50,7 @@ module _ {k g i : ℕ} {d : List ℕ} {p : ℕ} {m : List ℕ} {e : List ℤ} {e
   pub scale-low : k < g → ScaleDone k g i d p m e e-in ea u u-in h w w c top
   scale-low l = record { low = λ q. refl; high = λ q. absurd (lt_irrefl 0 (omega arith)) }
 
-  pub scale_high : {w' : List ℤ} → g ≤ k → ProductDone i d p m e e-in ea (scaling i e u u-in h c) false false w w' c top
+  pub scale_high : {w' : List ℤ} → g ≤ k → ProductDone i d p m e e-in ea (scaling i u u-in h c) false false w w' c top
       → ScaleDone k g i d p m e e-in ea u u-in h w w' c top
   scale_high l s = record { low = λ q. absurd (lt_irrefl 0 (omega arith)); high = λ q. s }
 
@@ -79,7 +79,7 @@ module _ {i : ℕ} {d z : List ℕ} {p : ℕ} {e : List ℤ} {e-in : Bool} {ea :
     abbrev at : ℕ
     at = a + k * size d i
 
-    given_now : (c : Before) → Given p c.stood.p_pos d (scaling i e u u-in h at) (λ n. c.v) (λ n. left c k) i (group p c.stood.p_pos d i).𝟘 false w at
+    given_now : (c : Before) → Given p c.stood.p_pos d (scaling i u u-in h at) (λ n. c.v) (λ n. left c k) i (group p c.stood.p_pos d i).𝟘 false w at
     given_now c = record {
       lefts = λ n l.
           let en : h ≡ h + n * size d i = only n l h in
@@ -107,7 +107,7 @@ module _ {i : ℕ} {d z : List ℕ} {p : ℕ} {e : List ℤ} {e-in : Bool} {ea :
         (given_now unit_stood)
 
     -- it is multiplied
-    scaled : {m : List ℕ} {w' : List ℤ} → length m ≡ 4 → ProductDone i d p m e e-in ea (scaling i e u u-in h at) false false w w' at top
+    scaled : {m : List ℕ} {w' : List ℤ} → length m ≡ 4 → ProductDone i d p m e e-in ea (scaling i u u-in h at) false false w w' at top
         → (c : Before) → Stands p d i ((ring p c.stood.p_pos d i c.stood.t).◌⊗◌ c.v (left c k)) w' at
     scaled {m} em done c =
         let R = ring p c.stood.p_pos d i c.stood.t in
@@ -121,7 +121,7 @@ module _ {i : ℕ} {d z : List ℕ} {p : ℕ} {e : List ℤ} {e-in : Bool} {ea :
         ∙ zero-⊕ R x)
 
   module _ {k₁ : ℕ} {w : List ℤ} (some : 0 < k₁) (s : At k₁ w) {m : List ℕ} {f q n at : ℕ} {w₁ : List ℤ} (em : length m ≡ 4)
-      (l : Counted d i b a g cap (k₁ - 1) f q n at) (made : ProductDone i d p m e e-in ea (two i y y_in f e true q n) true true w w₁ at top) where
+      (l : Counted d i b a g cap (k₁ - 1) f q n at) (made : ProductDone i d p m e e-in ea (two i y y_in f [] true q n) true true w w₁ at top) where
     abbrev k : ℕ
     k = k₁ - 1
 

@@ -10,7 +10,8 @@
 -- Spread                == the same where the old content's coefficients stand from top on
 -- taken, TakenReady     == the pairs that a coefficient loses in a division, and the bounds of their places
 -- ProductReady, CoefficientsReady, RemainderReady and .. Done == the contracts
-use Rattle.std.specs.Prelude.{ℕ, zero, suc, ◌+◌, ◌-◌, ◌*◌, ◌^◌, ◌<◌, ◌≤◌, ◌≡◌, refl, Bool, true, false, ◌⊎◌, List, ℤ, pos, length, get_or, set}
+use Rattle.arithmetic.specs.Sources.{lent, stored}
+use Rattle.std.specs.Prelude.{ℕ, zero, suc, ◌+◌, ◌-◌, ◌*◌, ◌^◌, ◌<◌, ◌≤◌, ◌≡◌, refl, Bool, true, false, ◌⊎◌, List, [], ℤ, pos, length, get_or, set}
 use Rattle.algebra.specs.Vec.{Vec, coef}
 use Rattle.algebra.specs.Windows.{first, span}
 use Rattle.algebra.specs.Divided.{row}
@@ -67,7 +68,7 @@ abbrev pub two : ℕ → List ℤ → Bool → ℕ → List ℤ → Bool → ℕ
 two i x x_in a y y_in b n = record { i = i; x = x; x_in = x_in; a = a; y = y; y_in = y_in; b = b; n = n }
 
 abbrev pub operands : Operands → Two
-operands o = two o.i o.x.lent.now o.x.stored o.x.at o.y.lent.now o.y.stored o.y.at o.n
+operands o = two o.i (lent o.x) (stored o.x) o.x.at (lent o.y) (stored o.y) o.y.at o.n
 
 abbrev pub left : Two → List ℤ → List ℤ
 left o w = pick o.x_in w o.x
@@ -173,8 +174,8 @@ abbrev pub Outside : Bool → ℕ → ℕ → ℕ → ℕ → Type 0
 Outside within b n a m = within ≡ true → (b + n ≤ a) ⊎ (a + m ≤ b)
 
 -- the pairs that the k-th of cap coefficients at a loses, of s words each: the divisor's g coefficients at b, and the quotient's, which stand in the store
-abbrev pub taken : (k i g cap s : ℕ) (e y : List ℤ) (y_in : Bool) (b a : ℕ) → Two
-taken k i g cap s e y y_in b a = two i y y_in (b + first (cap - g) k * s) e true (a + (g + first g k) * s) (span g (cap - g) k)
+abbrev pub taken : (k i g cap s : ℕ) (y : List ℤ) (y_in : Bool) (b a : ℕ) → Two
+taken k i g cap s y y_in b a = two i y y_in (b + first (cap - g) k * s) [] true (a + (g + first g k) * s) (span g (cap - g) k)
 
 pub record TakenReady (k g cap s b a : ℕ) : Type 0 where
   pub fits : g ≤ cap

@@ -3,7 +3,7 @@
 -- scaling               == the operands where an element is multiplied in place
 -- ScaleReady, ScaleDone == from g on the k-th coefficient is multiplied
 -- UnitReady, UnitDone   == the division's contract; nothing asks that the element v really is the inverse: what the row rowᵘ then means is UnitDivide's law
-use Rattle.std.specs.Prelude.{ℕ, ◌*◌, ◌<◌, ◌≤◌, ◌≡◌, Bool, true, false, List, ℤ}
+use Rattle.std.specs.Prelude.{ℕ, ◌*◌, ◌<◌, ◌≤◌, ◌≡◌, Bool, true, false, List, [], ℤ}
 use Rattle.algebra.specs.Vec.{Vec}
 use Rattle.algebra.specs.UnitDivided.{rowᵘ}
 use Rattle.tower.specs.Levels.{El, Tower, ring}
@@ -14,17 +14,17 @@ use Rattle.products.specs.Product.{Worked, work, Elements, Two, two, Inside, Pro
 
 -- ---- one coefficient
 -- the element at h in u, and the one at c in the store
-abbrev pub scaling : ℕ → List ℤ → List ℤ → Bool → ℕ → ℕ → Two
-scaling i e u u-in h c = two i u u-in h e true c 1
+abbrev pub scaling : ℕ → List ℤ → Bool → ℕ → ℕ → Two
+scaling i u u-in h c = two i u u-in h [] true c 1
 
 abbrev pub ScaleReady : (i : ℕ) (d z : List ℕ) (p : ℕ) (m : List ℕ) (e : List ℤ) (e-in : Bool) (ea : ℕ) (u : List ℤ) (u-in : Bool) (h : ℕ) (w : List ℤ)
     (c top : ℕ) → Type 0
-ScaleReady i d z p m e e-in ea u u-in h w c top = ProductReady i d z p m e e-in ea (scaling i e u u-in h c) false w c top
+ScaleReady i d z p m e e-in ea u u-in h w c top = ProductReady i d z p m e e-in ea (scaling i u u-in h c) false w c top
 
 pub record ScaleDone (k g i : ℕ) (d : List ℕ) (p : ℕ) (m : List ℕ) (e : List ℤ) (e-in : Bool) (ea : ℕ) (u : List ℤ) (u-in : Bool) (h : ℕ) (w w' : List ℤ)
     (c top : ℕ) : Type 0 where
   pub low : k < g → w' ≡ w
-  pub high : g ≤ k → ProductDone i d p m e e-in ea (scaling i e u u-in h c) false false w w' c top
+  pub high : g ≤ k → ProductDone i d p m e e-in ea (scaling i u u-in h c) false false w w' c top
 
 -- ---- the division
 pub record UnitReady (i : ℕ) (d z : List ℕ) (p : ℕ) (e : List ℤ) (e-in : Bool) (ea : ℕ) (y : List ℤ) (y_in : Bool) (b g : ℕ) (u : List ℤ) (u-in : Bool) (h : ℕ)

@@ -9,10 +9,11 @@ ghost use Rattle.products.specs.Product.{operands, ProductReady, ProductDone};
 ghost use Rattle.arithmetic.specs.Walk.{pick};
 ghost use Rattle.products.specs.Lowest.{old_number, OldReady, SingleReady, single_number, PairsAtReady, SummedAt, DividedReady, divided_number};
 ghost use Rattle.products.specs.Lowest.{WriteReady, written_number, SumsReady, LowestDone, LeaveReady, Left};
+ghost use Rattle.arithmetic.specs.Sources.{lent, stored};
 
 use super::Operands;
 use arithmetic::lines::{line, seven, three};
-use arithmetic::places::{Source, first_of, keeps, loses, span_of, wide_of, with_place, words_of};
+use arithmetic::places::{Source, first_of, keeps, loses, span_of, wide_of, with_place};
 use arithmetic::rows::settle;
 use arithmetic::sum::gain;
 use arithmetic::walk::{dot, sum_pairs};
@@ -43,8 +44,8 @@ pub fn single(
     requires { SingleReady d z p m (operands o) keep w.old c }
     ensures { w.new ≡ set w.old c (pos (single_number d p m (operands o.entry) neg keep w.old c)) }
 {
-    let x = words_of(o.x, w);
-    let y = words_of(o.y, w);
+    let x = o.x.words(w);
+    let y = o.y.words(w);
     let s = sum_pairs(o.i, d, z, m, x, o.x.at, y, o.y.at, o.n);
     let v = residue::reduce(s, p);
     let u = old_at(keep, p, w, c);
@@ -64,8 +65,8 @@ pub fn pairs_at(
     requires { PairsAtReady g d z m (operands o) w.now k }
     ensures { SummedAt d m (operands o.entry) w.now k result.lo result.hi }
 {
-    let x = words_of(o.x, w);
-    let y = words_of(o.y, w);
+    let x = o.x.words(w);
+    let y = o.y.words(w);
     if o.i == 1 {
         return line(g, k, x, o.x.at, y, o.y.at, o.n);
     }
@@ -82,13 +83,13 @@ pub fn divided_at(
     top: usize,
     s: Accumulator,
 ) -> u64
-    requires { DividedReady g p (pick e.stored w.now e.lent.now) e.at w.now top k s.lo s.hi }
-    ensures { Below p (divided_number g p (pick e.entry.stored w.now e.entry.lent.now) e.entry.at w.now top k (sum_of s.lo s.hi)) result }
+    requires { DividedReady g p (pick (stored e) w.now (lent e)) e.at w.now top k s.lo s.hi }
+    ensures { Below p (divided_number g p (pick (stored e.entry) w.now (lent e.entry)) e.entry.at w.now top k (sum_of s.lo s.hi)) result }
 {
     let c = span_of(g, g - 1, k);
     let f = e.at + 1 + first_of(g - 1, k);
     let q = top + g + first_of(g, k);
-    residue::reduce(dot(words_of(e, w), f, w, q, c, 1, s), p)
+    residue::reduce(dot(e.words(w), f, w, q, c, 1, s), p)
 }
 
 // Writes the k-th coefficient from the sum of its pairs: below g what the element at c comes to there, above that the negated quotient's.
@@ -104,9 +105,9 @@ pub fn write_at(
     top: usize,
     s: Accumulator,
 )
-    requires { WriteReady g p (pick e.stored w.old e.lent.now) e.at keep w.old c top k s.lo s.hi }
+    requires { WriteReady g p (pick (stored e) w.old (lent e)) e.at keep w.old c top k s.lo s.hi }
     ensures { w.new ≡ set w.old (top + k)
-        (pos (written_number g p (pick e.entry.stored w.old e.entry.lent.now) e.entry.at neg keep w.old c top k (sum_of s.lo s.hi))) }
+        (pos (written_number g p (pick (stored e.entry) w.old (lent e.entry)) e.entry.at neg keep w.old c top k (sum_of s.lo s.hi))) }
 {
     let v = divided_at(k, g, p, e, w, top, s);
     let u = old_at(keeps(keep, k, g), p, w, c + 1 + k);
@@ -130,10 +131,11 @@ pub fn lowest_from<const N: usize>(
     top: usize,
 )
     requires sums { SumsReady N g d (operands o) w.old s }
-    requires ready { ProductReady 1 d z p m e.lent.now e.stored e.at (operands o) keep w.old c top }
-    ensures { LowestDone d p m e.entry.lent.now e.entry.stored e.entry.at (operands o.entry) neg keep w.old w.new c top }
+    requires ready { ProductReady 1 d z p m (lent e) (stored e) e.at (operands o) keep w.old c top }
+    ensures { LowestDone d p m (lent e.entry) (stored e.entry) e.entry.at (operands o.entry) neg keep w.old w.new c top }
 {
-    // The quotient's, and then the others: each loop is short enough to be unrolled.
+    // The quotient's, and then the others.
+    // Stays: two loops of the same body, which the compiler writes out; as one loop of seven a product of one pair over d = 4 took a quarter more time.
     for k in (g..N).rev() {
         write_at(k, g, p, e, neg, keep, w, c, top, s[k]);
     }
@@ -156,19 +158,17 @@ pub fn lowest(
     c: usize,
     top: usize,
 )
-    requires { ProductReady 1 d z p m e.lent.now e.stored e.at (operands o) keep w.old c top }
-    ensures { LowestDone d p m e.entry.lent.now e.entry.stored e.entry.at (operands o.entry) neg keep w.old w.new c top }
+    requires { ProductReady 1 d z p m (lent e) (stored e) e.at (operands o) keep w.old c top }
+    ensures { LowestDone d p m (lent e.entry) (stored e.entry) e.entry.at (operands o.entry) neg keep w.old w.new c top }
 {
     let g = degree_at(d, 0);
-    let x = words_of(o.x, w);
-    let y = words_of(o.y, w);
     match (o.i, g) {
         (1, 2) => {
-            let s = three(x, o.x.at, y, o.y.at, o.n);
+            let s = three(o.x.words(w), o.x.at, o.y.words(w), o.y.at, o.n);
             lowest_from(s, g, d, z, p, m, e, o, neg, keep, w, c, top);
         }
         (1, 4) => {
-            let s = seven(x, o.x.at, y, o.y.at, o.n);
+            let s = seven(o.x.words(w), o.x.at, o.y.words(w), o.y.at, o.n);
             lowest_from(s, g, d, z, p, m, e, o, neg, keep, w, c, top);
         }
         _ => {
@@ -204,8 +204,8 @@ pub fn low_product(
     c: usize,
     top: usize,
 )
-    requires { (j < 2) × ProductReady j d z p m e.lent.now e.stored e.at (operands o) keep w.old c top }
-    ensures { ProductDone j d p m e.entry.lent.now e.entry.stored e.entry.at (operands o.entry) neg keep w.old w.new c top }
+    requires { (j < 2) × ProductReady j d z p m (lent e) (stored e) e.at (operands o) keep w.old c top }
+    ensures { ProductDone j d p m (lent e.entry) (stored e.entry) e.entry.at (operands o.entry) neg keep w.old w.new c top }
 {
     if j == 0 {
         single(d, z, p, m, o, neg, keep, w, c);

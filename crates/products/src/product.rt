@@ -7,6 +7,7 @@
 ghost use Rattle.std.specs.Prelude.{◌≡◌, ◌≤◌};
 ghost use Rattle.products.specs.Product.{operands, ProductReady, ProductDone, CoefficientsReady, CoefficientsDone};
 ghost use Rattle.products.specs.Product.{TakenReady, taken, RemainderReady, RemainderDone};
+ghost use Rattle.arithmetic.specs.Sources.{lent, stored};
 
 use super::Operands;
 use super::lowest::{leave, low_product};
@@ -30,8 +31,8 @@ pub fn product(
     c: usize,
     top: usize,
 )
-    requires { ProductReady j d z p m e.lent.now e.stored e.at (operands o) keep w.old c top }
-    ensures { ProductDone j d p m e.entry.lent.now e.entry.stored e.entry.at (operands o.entry) neg keep w.old w.new c top }
+    requires { ProductReady j d z p m (lent e) (stored e) e.at (operands o) keep w.old c top }
+    ensures { ProductDone j d p m (lent e.entry) (stored e.entry) e.entry.at (operands o.entry) neg keep w.old w.new c top }
 {
     if j < 2 {
         low_product(j, d, z, p, m, e, o, neg, keep, w, c, top);
@@ -56,8 +57,8 @@ pub fn high_product(
     c: usize,
     top: usize,
 )
-    requires { (2 ≤ j) × ProductReady j d z p m e.lent.now e.stored e.at (operands o) keep w.old c top }
-    ensures { ProductDone j d p m e.entry.lent.now e.entry.stored e.entry.at (operands o.entry) neg keep w.old w.new c top }
+    requires { (2 ≤ j) × ProductReady j d z p m (lent e) (stored e) e.at (operands o) keep w.old c top }
+    ensures { ProductDone j d p m (lent e.entry) (stored e.entry) e.entry.at (operands o.entry) neg keep w.old w.new c top }
 {
     let l = j - 1;
     let g = degree_at(d, l);
@@ -90,8 +91,8 @@ pub fn coefficients(
     w: &mut [i64],
     top: usize,
 )
-    requires { CoefficientsReady j d z p m e.lent.now e.stored e.at (operands o) keep w.old top }
-    ensures { CoefficientsDone j d p m e.entry.lent.now e.entry.stored e.entry.at (operands o.entry) neg keep w.old w.new top }
+    requires { CoefficientsReady j d z p m (lent e) (stored e) e.at (operands o) keep w.old top }
+    ensures { CoefficientsDone j d p m (lent e.entry) (stored e.entry) e.entry.at (operands o.entry) neg keep w.old w.new top }
 {
     let g = degree_at(d, j);
     let s = size_at(z, j);
@@ -113,12 +114,11 @@ pub fn taken_at<'a>(
     g: usize,
     cap: usize,
     s: usize,
-    e: Source<'a>,
     y: Source<'a>,
     a: usize,
 ) -> Operands<'a>
     requires { TakenReady k g cap s y.at a }
-    ensures { operands result ≡ taken k i g cap s e.entry.lent.now y.entry.lent.now y.entry.stored y.entry.at a }
+    ensures { operands result ≡ taken k i g cap s (lent y.entry) (stored y.entry) y.entry.at a }
 {
     Operands {
         i,
@@ -127,9 +127,8 @@ pub fn taken_at<'a>(
             ..y
         },
         y: Source {
-            stored: true,
+            lent: None,
             at: part_at(a, g + first_of(g, k), s),
-            ..e
         },
         n: span_of(g, cap - g, k),
     }
@@ -150,13 +149,13 @@ pub fn remainder(
     cap: usize,
     top: usize,
 )
-    requires { RemainderReady i d z p e.lent.now e.stored e.at y.lent.now y.stored y.at g w.old a cap top }
-    ensures { RemainderDone i d p e.entry.lent.now e.entry.stored e.entry.at y.entry.lent.now y.entry.stored y.entry.at g w.old w.new a cap top }
+    requires { RemainderReady i d z p (lent e) (stored e) e.at (lent y) (stored y) y.at g w.old a cap top }
+    ensures { RemainderDone i d p (lent e.entry) (stored e.entry) e.entry.at (lent y.entry) (stored y.entry) y.entry.at g w.old w.new a cap top }
 {
     let s = size_at(z, i);
     let m = [0usize; 4];
     for k in (0..cap - 1).rev() {
-        let o = taken_at(k, i, g, cap, s, e, y, a);
+        let o = taken_at(k, i, g, cap, s, y, a);
         let c = part_at(a, k, s);
         product(i, d, z, p, m, e, o, true, true, w, c, top);
     }

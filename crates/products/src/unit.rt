@@ -1,6 +1,7 @@
 // Division in place by a polynomial whose leading coefficient has a known inverse: the remainder's loop, where each coefficient of the quotient is
 // multiplied by the inverse as soon as it is made.
 ghost use Rattle.products.specs.Unit.{ScaleReady, ScaleDone, UnitReady, UnitDone};
+ghost use Rattle.arithmetic.specs.Sources.{lent, stored};
 
 use super::Operands;
 use super::product::{product, taken_at};
@@ -22,8 +23,8 @@ pub fn scale_at(
     c: usize,
     top: usize,
 )
-    requires { ScaleReady i d z p m e.lent.now e.stored e.at u.lent.now u.stored u.at w.old c top }
-    ensures { ScaleDone k g i d p m e.entry.lent.now e.entry.stored e.entry.at u.entry.lent.now u.entry.stored u.entry.at w.old w.new c top }
+    requires { ScaleReady i d z p m (lent e) (stored e) e.at (lent u) (stored u) u.at w.old c top }
+    ensures { ScaleDone k g i d p m (lent e.entry) (stored e.entry) e.entry.at (lent u.entry) (stored u.entry) u.entry.at w.old w.new c top }
 {
     if k < g {
         return;
@@ -31,11 +32,7 @@ pub fn scale_at(
     let o = Operands {
         i,
         x: u,
-        y: Source {
-            stored: true,
-            at: c,
-            ..e
-        },
+        y: Source { lent: None, at: c },
         n: 1,
     };
     product(i, d, z, p, m, e, o, false, false, w, c, top);
@@ -59,14 +56,14 @@ pub fn unit_remainder(
     cap: usize,
     top: usize,
 )
-    requires { UnitReady i d z p e.lent.now e.stored e.at y.lent.now y.stored y.at g u.lent.now u.stored u.at w.old a cap top }
-    ensures { UnitDone i d p e.entry.lent.now e.entry.stored e.entry.at y.entry.lent.now y.entry.stored y.entry.at g
-        u.entry.lent.now u.entry.stored u.entry.at w.old w.new a cap top }
+    requires { UnitReady i d z p (lent e) (stored e) e.at (lent y) (stored y) y.at g (lent u) (stored u) u.at w.old a cap top }
+    ensures { UnitDone i d p (lent e.entry) (stored e.entry) e.entry.at (lent y.entry) (stored y.entry) y.entry.at g
+        (lent u.entry) (stored u.entry) u.entry.at w.old w.new a cap top }
 {
     let s = size_at(z, i);
     let m = [0usize; 4];
     for k in (0..cap).rev() {
-        let o = taken_at(k, i, g, cap, s, e, y, a);
+        let o = taken_at(k, i, g, cap, s, y, a);
         let c = part_at(a, k, s);
         product(i, d, z, p, m, e, o, true, true, w, c, top);
         scale_at(k, g, i, d, z, p, m, e, u, w, c, top);

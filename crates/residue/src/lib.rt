@@ -85,6 +85,7 @@ pub fn magnitude(n: i64) -> u64
 }
 
 // The residue of n modulo p.
+// Stays: `as`, here and below, where the clauses say that the value fits; `try_from` has a branch that is never taken.
 pub fn residue_of(n: i64, p: u64) -> u64
     requires { Modulus p }
     ensures { Below p (mod_z n p) result }

@@ -20,6 +20,7 @@ pub fn inverse(c: u64, p: u64) -> Result<u64, Shared>
     requires { (1 < p) × Operand p c }
     ensures { Inverted p c result }
 {
+    // Stays: a while, as the rows count no index; the remainder ends them.
     // The multipliers' signs alternate, so only their magnitudes are kept: m1 counts plus and m0 minus, or the other way round.
     let mut plus = true;
     let mut r0 = p;

@@ -11,7 +11,7 @@ use native.Mathlib.Omega.{arith}
 use mathlib.Core.Path.{◌≡◌, ap₂, refl, ap, sym, ◌∙◌, subst}
 use mathlib.Core.Bool.{Bool, true}
 use mathlib.Core.Logic.{inl}
-use mathlib.Core.List.{List}
+use mathlib.Core.List.{List, []}
 use lib.IntN.{ℤ, pos}
 use lib.ListN.{length, get_or}
 use Rattle.algebra.specs.Vec.{Vec, zeroᵛ, coef-zero, coef_inj, topped-top}
@@ -108,7 +108,7 @@ module _ {h : ℕ} {d z : List ℕ} {p : ℕ} {e : List ℤ} {e-in : Bool} {ea :
         subst (λ j. Stands p d h q.c w₁ (top + slot d h + 1 + j * s)) (sym last)
         (b.given q.e q.shape.0 ∙ ap (write p d h) (q.shape.2 q.e ∙ topped-top o q.e q.u q.c))
 
-    pub begin_asks : InvertReady h d z p e e-in (under_of d h ea) e true (top + slot d h + 1 + (n - 1) * s) w₁ (top + 4 * slot d h + s) (next_of d h top)
+    pub begin_asks : InvertReady h d z p e e-in (under_of d h ea) [] true (top + slot d h + 1 + (n - 1) * s) w₁ (top + 4 * slot d h + s) (next_of d h top)
     begin_asks =
         let y = run_acting r fra in
         let inside = block_inside (n - 1) (g + 1) s (omega (arith, begin_counts)) in
@@ -134,7 +134,7 @@ module _ {h : ℕ} {d z : List ℕ} {p : ℕ} {e : List ℤ} {e-in : Bool} {ea :
         }
 
     module _ {w₂ : List ℤ} (c : Result (Unit {0}) Stop)
-        (i : InvertDone h d p e e-in (under_of d h ea) e true (top + slot d h + 1 + (n - 1) * s) w₁ w₂ (top + 4 * slot d h + s) (next_of d h top) c) where
+        (i : InvertDone h d p e e-in (under_of d h ea) [] true (top + slot d h + 1 + (n - 1) * s) w₁ w₂ (top + 4 * slot d h + s) (next_of d h top) c) where
       pub begin_frame : Kept top (inverse_work d (suc h)) w₀ w₂
       begin_frame = kept_trans fra (worked_kept laid.ku_low laid.ku_high (omega (arith, run_room r)) i.frame)
 

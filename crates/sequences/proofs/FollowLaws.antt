@@ -13,7 +13,7 @@ use native.Mathlib.Omega.{arith}
 use mathlib.Core.Path.{◌≡◌, refl, ap, sym, ◌∙◌, subst}
 use mathlib.Core.Bool.{Bool, true}
 use mathlib.Core.Logic.{◌⊎◌, inl, inr}
-use mathlib.Core.List.{List}
+use mathlib.Core.List.{List, []}
 use lib.IntN.{ℤ}
 use lib.ListN.{length, get_or}
 use Rattle.algebra.specs.Vec.{Vec, coef, trunc, trunc-at, topped-top}
@@ -188,7 +188,7 @@ module _ {i : ℕ} {d z : List ℕ} {p : ℕ} {e : List ℤ} {e-in : Bool} {ea r
             go (inl y) = record { apart = inl (omega arith) }
             go (inr y) = record { apart = inr (omega (arith, free_ends)) }
 
-        follow-invert : InvertReady i d z p e e-in ea e true free w₁ free top
+        follow-invert : InvertReady i d z p e e-in ea [] true free w₁ free top
         follow-invert = record {
           run = record {
             modulus = r.modulus;
@@ -210,7 +210,7 @@ module _ {i : ℕ} {d z : List ℕ} {p : ℕ} {e : List ℤ} {e-in : Bool} {ea r
           c_below = follow-free;
         }
 
-        module _ {w₂ : List ℤ} (c : Result (Unit {0}) Stop) (inverted : InvertDone i d p e e-in ea e true free w₁ w₂ free top c) where
+        module _ {w₂ : List ℤ} (c : Result (Unit {0}) Stop) (inverted : InvertDone i d p e e-in ea [] true free w₁ w₂ free top c) where
           -- what the inverse comes to
           came : (b : Before) → Came p b.p_pos d i b.t (answer b) c w₂ free
           came b = inverted.done b.p_pos b.t _ (tower₁ b times.frame b.tower) (product₁ b) (leading b).not_zero
@@ -314,11 +314,11 @@ module _ {i : ℕ} {d z : List ℕ} {p : ℕ} {e : List ℤ} {e-in : Bool} {ea r
           times' : TimesDone i d p e e-in ea unit (row + (k - 1) * size d i) w₀ w₁ (row + n * size d i) top
           times' = rw (ef, ep, one_size) at times
 
-          pub inverts : InvertReady i d z p e e-in ea e true free w₁ free top
+          pub inverts : InvertReady i d z p e e-in ea [] true free w₁ free top
           inverts = rw (ef, one_size) (follow-invert r found some told.1 times')
 
-          module _ {w₂ : List ℤ} {c : Result (Unit {0}) Stop} (inverted : InvertDone i d p e e-in ea e true free w₁ w₂ free top c) where
-            inverted' : InvertDone i d p e e-in ea e true (row + n * size d i) w₁ w₂ (row + n * size d i) top c
+          module _ {w₂ : List ℤ} {c : Result (Unit {0}) Stop} (inverted : InvertDone i d p e e-in ea [] true free w₁ w₂ free top c) where
+            inverted' : InvertDone i d p e e-in ea [] true (row + n * size d i) w₁ w₂ (row + n * size d i) top c
             inverted' = rw (ef, one_size) at inverted
 
             pub scales : c ≡ Ok tt → TimesReady i d z p e e-in ea free unit w₂ unit top

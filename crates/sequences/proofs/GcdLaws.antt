@@ -7,7 +7,7 @@
 -- turns_shows, turns_over == a factor is shown; number 11 is not met
 -- turns-ones, turns-one  == the second is a constant: what writing 1 asks for, and leaves
 -- turns-monic, turns_end == what making the last one monic asks for, and leaves;  turns_long == the store is as long as before
--- Turning                == what holds wherever the loop's test is reached;  turning_fits, turning_start, turning_left, turning_next, turning_shows
+-- Turning                == what holds wherever the loop's test is reached;  turning_fits, turning_start, turning_left, turning_next, turning_stops
 use Prim.Native.Nat.{ℕ, zero, suc, ◌+◌, ◌-◌, ◌*◌, ◌^◌, ◌<◌, ◌≤◌, max}
 use native.Mathlib.Nat.{lt_irrefl, mul_comm, mul-le-mul_right}
 use native.Mathlib.Omega.{arith}
@@ -310,7 +310,7 @@ module _ {i : ℕ} {d z : List ℕ} {p : ℕ} {e : List ℤ} {e-in : Bool} {ea f
       words : (k : ℕ) → k ≤ k * size d i
       words k = omega (arith, mul-le-mul_right k (size-pos d i), mul_comm (size d i) k)
 
-  pub turning_start : {left : ℕ} → max m n < left → Turning i d z p e e-in ea fr fu m gr gu n w top fr fu m gr gu n left w
+  pub turning_start : {larger : ℕ} → larger ≡ max m n → Turning i d z p e e-in ea fr fu m gr gu n w top fr fu m gr gu n (larger + 1) w
   turning_start h = record { ready = r; after = λ v o y. y; few = omega (arith, h) }
 
 module _ {i : ℕ} {d z : List ℕ} {p : ℕ} {e : List ℤ} {e-in : Bool} {ea fr₀ fu₀ m₀ gr₀ gu₀ n₀ : ℕ} {w₀ : List ℤ} {top fr fu m gr gu n left : ℕ} {w : List ℤ}
@@ -319,11 +319,11 @@ module _ {i : ℕ} {d z : List ℕ} {p : ℕ} {e : List ℤ} {e-in : Bool} {ea f
   turning_left = omega (arith, s.few)
 
   module _ (some : 0 < n) {v : List ℤ} (c : Result ℕ Stop) (y : TurnDone i d p e e-in ea fr fu m gr gu n w v top c) where
-    pub turning_next : {left' : ℕ} → left ≤ suc left' → (j : ℕ) → c ≡ Ok j → Turning i d z p e e-in ea fr₀ fu₀ m₀ gr₀ gu₀ n₀ w₀ top gr gu n fr fu j left' v
-    turning_next ed j ec = record {
+    pub turning_next : (j : ℕ) → c ≡ Ok j → Turning i d z p e e-in ea fr₀ fu₀ m₀ gr₀ gu₀ n₀ w₀ top gr gu n fr fu j (left - 1) v
+    turning_next j ec = record {
       ready = turns_next s.ready some c y j ec;
       after = λ u o l. s.after u o (turns-after s.ready some c y j ec u o l);
-      few = omega (arith, turns_fewer s.ready some c y j ec, s.few, ed);
+      few = omega (arith, turns_fewer s.ready some c y j ec, s.few);
     }
 
     pub turning_stops : (x : Stop) → c ≡ Err x → TurnsDone i d p e e-in ea fr₀ fu₀ m₀ gr₀ gu₀ n₀ w₀ v top (Err x)

@@ -10,7 +10,7 @@ use native.Mathlib.Nat.{lt_irrefl}
 use native.Mathlib.Omega.{arith}
 use mathlib.Core.Path.{◌≡◌, refl, ap, sym, ◌∙◌, subst}
 use mathlib.Core.Bool.{Bool, true}
-use mathlib.Core.List.{List}
+use mathlib.Core.List.{List, []}
 use lib.IntN.{ℤ}
 use lib.ListN.{length, get_or}
 use Rattle.tower.specs.Writing.{size}
@@ -45,13 +45,13 @@ module _ {i : ℕ} {d : List ℕ} {p : ℕ} {e : List ℤ} {e-in : Bool} {ea row
       at-is : at ≡ row + (n - 1) * size d i
       at-is = ea' ∙ ap (λ k. row + (n - 1) * k) size_is
 
-      pub lead-invert : InvertReady i d z p e e-in ea e true at w unit top
-      lead-invert = subst (λ k. InvertReady i d z p e e-in ea e true k w unit top) (sym at-is) (r.some some)
+      pub lead-invert : InvertReady i d z p e e-in ea [] true at w unit top
+      lead-invert = subst (λ k. InvertReady i d z p e e-in ea [] true k w unit top) (sym at-is) (r.some some)
 
-      pub lead-some : {v : List ℤ} (o : Result (Unit {0}) Stop) → InvertDone i d p e e-in ea e true at w v unit top o → LeadDone i d p e e-in ea row unit n w v top o
+      pub lead-some : {v : List ℤ} (o : Result (Unit {0}) Stop) → InvertDone i d p e e-in ea [] true at w v unit top o → LeadDone i d p e e-in ea row unit n w v top o
       lead-some {v} o h = record {
         none = λ l. absurd (other l);
-        some = λ l. subst (λ k. InvertDone i d p e e-in ea e true k w v unit top o) at-is h;
+        some = λ l. subst (λ k. InvertDone i d p e e-in ea [] true k w v unit top o) at-is h;
       }
 
   pub monic-none : n ≡ 0 → MonicDone i d p e e-in ea row unit n w w top (greatest row 0)

@@ -81,7 +81,7 @@ module _ {i : ℕ} {d z : List ℕ} {p : ℕ} {e : List ℤ} {e-in : Bool} {ea a
       m = 0 ∷ 0 ∷ 0 ∷ 0 ∷ []
 
       go : TimesReady 0 d z p e e-in ea a b w c top → TimesDone 0 d p e e-in ea a b w w' c top
-      go r = times_done r {m = m} refl (single_done refl (times_asks r {m = m} refl) (h ∙ ap (λ n. set w c (pos n)) (times-single d m p e e a b w c)))
+      go r = times_done r {m = m} refl (single_done refl (times_asks r {m = m} refl) (h ∙ ap (λ n. set w c (pos n)) (times-single d m p [] [] a b w c)))
 
 -- ---- the loss of a sum
 module _ {d z : List ℕ} {p : ℕ} {m : List ℕ} {e : List ℤ} {e-in : Bool} {ea : ℕ} {x : List ℤ} {a : ℕ} {y : List ℤ} {b n : ℕ} {w : List ℤ} {c top : ℕ}

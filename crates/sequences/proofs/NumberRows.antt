@@ -93,7 +93,7 @@ module _ {d z : List ℕ} {p : ℕ} {e : List ℤ} {e-in : Bool} {ea : ℕ} {y :
             held_of p d r.v w u r.dividing.modulus (omega (arith, size-zero d, r.u_inside.inside, s.frame.long))
             (picked_seg true u (size d 0) w₀ w v (outside_same r.u_inside r.u_outside s.frame) ∙ r.inverse);
         apart = λ h. far h (r.u_outside refl);
-        lose = lose_dot (falling_asks r.dividing some s {m = no_places} (unit_stood r) refl places);
+        lose = lose_dot (falling_asks r.dividing some s {m = no_places} (unit_stood r) refl places refl);
       }
     where
       far : u ≡ a + k → (u + size d 0 ≤ a) ⊎ (a + cap * size d 0 ≤ u) → ⊥
@@ -107,14 +107,14 @@ module _ {d z : List ℕ} {p : ℕ} {e : List ℤ} {e-in : Bool} {ea : ℕ} {y :
         low = h.low;
         high = λ q.
             single_done refl (unit_scale r some s {m = no_places} refl places made)
-            (h.high q ∙ ap (λ n. set rest (a + k) (pos n)) (times-single d no_places p v e u (a + k) rest (a + k)));
+            (h.high q ∙ ap (λ n. set rest (a + k) (pos n)) (times-single d no_places p v [] u (a + k) rest (a + k)));
       })
     where
       rest : List ℤ
       rest = rested k p b g w a cap
 
-      made : ProductDone 0 d p no_places e e-in ea (two 0 y true (b + first (cap - g) k) e true (a + g + first g k) (span g (cap - g) k)) true true w rest (a + k) top
-      made = lost-word (falling_asks r.dividing some s {m = no_places} (unit_stood r) refl places) refl
+      made : ProductDone 0 d p no_places e e-in ea (two 0 y true (b + first (cap - g) k) [] true (a + g + first g k) (span g (cap - g) k)) true true w rest (a + k) top
+      made = lost-word (falling_asks r.dividing some s {m = no_places} (unit_stood r) refl places refl) refl
 
 -- ---- elements of level 0 over other degrees
 stands_over : (p : ℕ) (d d' : List ℕ) (u : El p d 0) (w : List ℤ) (a b : ℕ) → a ≡ b → Stands p d 0 u w a → Stands p d' 0 u w b

@@ -153,7 +153,7 @@ module _ (h g s : ℕ) (d z : List ℕ) (p : ℕ) (e : List ℤ) (e-in : Bool) (
 
   -- left remainders are allowed yet, and whatever inverse was underway has come to f and k
   pub record Passing (f k : Led) (left : ℕ) (w : List ℤ) : Type 0 where
-    pub few : k.count < left
+    pub few : k.count ≤ left
     pub on : (u : Before)
         → Looping h d z p e e-in u.ea u.x u.x_in u.a u.w₀ u.top f.row f.carried f.unit f.count k.row k.carried k.unit k.count w
 
@@ -165,8 +165,8 @@ module _ {h g s : ℕ} {d z : List ℕ} {p : ℕ} {e : List ℤ} {e-in : Bool} {
   pub passes_long : {w : List ℤ} {r : Result ℕ Stop} → PassesDone h g s d z p e e-in under f₀ k₀ w₀ w next r → length w ≡ length w₀
   passes_long y = (y.done u).frame.long ∙ sym u.looping.frame.long
 
-  pub passing_start : {left : ℕ} → g + 2 ≤ left → Passing h g s d z p e e-in under f₀ k₀ w₀ next f₀ k₀ left w₀
-  passing_start el = record { few = omega (arith, loop_few u.looping, u.figures.degree-is, el); on = λ v. v.looping }
+  pub passing_start : Passing h g s d z p e e-in under f₀ k₀ w₀ next f₀ k₀ (g + 2) w₀
+  passing_start = record { few = omega (arith, loop_few u.looping, u.figures.degree-is); on = λ v. v.looping }
 
   module _ {f k : Led} {left : ℕ} {w : List ℤ} (l : Passing h g s d z p e e-in under f₀ k₀ w₀ next f k left w) where
     module _ (more : 1 < k.count) where
@@ -181,10 +181,10 @@ module _ {h g s : ℕ} {d z : List ℕ} {p : ℕ} {e : List ℤ} {e-in : Bool} {
           pub passing_fewer : (n : ℕ) → c ≡ Ok n → n < k.count
           passing_fewer = pass_fewer u.figures f k (l.on u) more m c follow
 
-          pub passing_next : {left' : ℕ} → left ≤ suc left' → (n : ℕ) → c ≡ Ok n
-              → Passing h g s d z p e e-in under f₀ k₀ w₀ next k (record { row = f.row; carried = f.carried; unit = f.unit; count = n }) left' w₃
-          passing_next ed n ec = record {
-            few = omega (arith, passing_fewer n ec, l.few, ed);
+          pub passing_next : (n : ℕ) → c ≡ Ok n
+              → Passing h g s d z p e e-in under f₀ k₀ w₀ next k (record { row = f.row; carried = f.carried; unit = f.unit; count = n }) (left - 1) w₃
+          passing_next n ec = record {
+            few = omega (arith, passing_fewer n ec, l.few);
             on = λ v. pass_next v.figures f k (l.on v) more m c follow n ec;
           }
 

@@ -12,7 +12,7 @@ use native.Mathlib.Omega.{arith}
 use mathlib.Core.Path.{◌≡◌, refl, ap, sym, ◌∙◌, subst}
 use mathlib.Core.Bool.{Bool, true, false}
 use mathlib.Core.Logic.{◌⊎◌, inl, inr}
-use mathlib.Core.List.{List}
+use mathlib.Core.List.{List, []}
 use lib.Dec.{T}
 use lib.IntN.{ℤ}
 use lib.ListN.{length, get_or}
@@ -64,8 +64,8 @@ acting_size {i} s h = h ∙ s.sized.at i s.low
 pub acting_product : {i : ℕ} {d z : List ℕ} {p : ℕ} {m : List ℕ} {e : List ℤ} {e-in : Bool} {ea : ℕ} {w : List ℤ} {c top a b n : ℕ} {keep : Bool}
     {u v : ℕ → El p d i} {old : El p d i} → Acting i d z p e e-in ea w top → length m ≡ 4 → a + n * size d i ≤ top → b + n * size d i ≤ top
     → n * size d i ≤ 2 ^ 31 → c + size d i ≤ top → (p_pos : 0 < p) (t : Tower p d i) → TowerStands p p_pos d i t (pick e-in w e) ea
-    → Given p p_pos d (two i e true a e true b n) u v i old keep w c
-    → ProductReady i d z p m e e-in ea (two i e true a e true b n) keep w c top
+    → Given p p_pos d (two i [] true a [] true b n) u v i old keep w c
+    → ProductReady i d z p m e e-in ea (two i [] true a [] true b n) keep w c top
 acting_product {u = u} {v = v} {old = old} s em ha hb few hc p_pos t tower h = record {
   operating = record {
     modulus = s.modulus;
@@ -105,15 +105,15 @@ no_old q = absurd (subst T (sym q) tt)
 
 module _ {i : ℕ} {d z : List ℕ} {p : ℕ} {e : List ℤ} {e-in : Bool} {ea a b : ℕ} {w : List ℤ} {c top : ℕ} (r : TimesReady i d z p e e-in ea a b w c top) where
   pair_given : (p_pos : 0 < p) (x y : El p d i) → Stands p d i x w a → Stands p d i y w b
-      → Given p p_pos d (two i e true a e true b 1) (λ k. x) (λ k. y) i (group p p_pos d i).𝟘 false w c
+      → Given p p_pos d (two i [] true a [] true b 1) (λ k. x) (λ k. y) i (group p p_pos d i).𝟘 false w c
   pair_given p_pos x y hx hy = record { lefts = one-element p d i x w a hx; rights = one-element p d i y w b hy; kept = no_old; fresh = λ q. refl }
 
-  pub times_asks : {m : List ℕ} → length m ≡ 4 → ProductReady i d z p m e e-in ea (two i e true a e true b 1) false w c top
+  pub times_asks : {m : List ℕ} → length m ≡ 4 → ProductReady i d z p m e e-in ea (two i [] true a [] true b 1) false w c top
   times_asks em =
       acting_product r.acting em (omega (arith, r.a_below)) (omega (arith, r.b_below)) (omega (arith, r.acting.small)) r.c_below
       r.acting.p_pos r.acting.t r.acting.tower (pair_given r.acting.p_pos r.x r.y r.left r.right)
 
-  pub times_done : {m : List ℕ} {w' : List ℤ} → length m ≡ 4 → ProductDone i d p m e e-in ea (two i e true a e true b 1) false false w w' c top
+  pub times_done : {m : List ℕ} {w' : List ℤ} → length m ≡ 4 → ProductDone i d p m e e-in ea (two i [] true a [] true b 1) false false w w' c top
       → TimesDone i d p e e-in ea a b w w' c top
   times_done {m} em h = record {
     frame = h.frame;

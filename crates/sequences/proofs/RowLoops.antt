@@ -9,7 +9,7 @@ use native.Mathlib.Nat.{mul-le-mul_left, add-mul}
 use native.Mathlib.Omega.{arith}
 use mathlib.Core.Path.{◌≡◌, refl, ap, ◌∙◌, subst}
 use mathlib.Core.Bool.{Bool, true}
-use mathlib.Core.List.{List}
+use mathlib.Core.List.{List, []}
 use lib.Dec.{T}
 use lib.IntN.{ℤ}
 use lib.ListN.{length}
@@ -170,7 +170,7 @@ module _ {i : ℕ} {d z : List ℕ} {p : ℕ} {e : List ℤ} {e-in : Bool} {ea a
     losing_here eq = rw eq (omega (arith, rising_below s r.c_below here, r.acting.room))
 
     given_now : (x : LoseStood i d p (pick e-in w₀ e) ea a m b n w₀ c)
-        → Given p x.p_pos d (two i e true (a + first n k * size d i) e true (b + first m k * size d i) (span m n k)) (λ j. x.f (first n k + j))
+        → Given p x.p_pos d (two i [] true (a + first n k * size d i) [] true (b + first m k * size d i) (span m n k)) (λ j. x.f (first n k + j))
         (λ j. x.g (first m k + j)) i (x.h k) true w (c + k * size d i)
     given_now x = record {
       lefts = λ j l.
@@ -188,7 +188,7 @@ module _ {i : ℕ} {d z : List ℕ} {p : ℕ} {e : List ℤ} {e-in : Bool} {ea a
     }
 
     module _ {o : List ℕ} {x y q at : ℕ} (em : length o ≡ 4) (l : Met d i a m b n c k x y q at) where
-      pub losing_asks : ProductReady i d z p o e e-in ea (two i e true x e true y q) true w at top
+      pub losing_asks : ProductReady i d z p o e e-in ea (two i [] true x [] true y q) true w at top
       losing_asks = rw (l.lefts, l.rights, l.many, l.here)
           (acting_product (acting_later r.acting r.e_outside (rising_whole s)) em (omega (arith, left_fits, r.a_below)) (omega (arith, right_fits, r.b_below))
           (omega (arith, left_fits, r.few)) (rising_below s r.c_below here) r.acting.p_pos r.acting.t
@@ -205,7 +205,7 @@ module _ {i : ℕ} {d z : List ℕ} {p : ℕ} {e : List ℤ} {e-in : Bool} {ea a
             old = r.old;
           })))
 
-      pub losing_next : {k' : ℕ} {w' : List ℤ} → k' ≡ k + 1 → ProductDone i d p o e e-in ea (two i e true x e true y q) true true w w' at top → Lost k' w'
+      pub losing_next : {k' : ℕ} {w' : List ℤ} → k' ≡ k + 1 → ProductDone i d p o e e-in ea (two i [] true x [] true y q) true true w w' at top → Lost k' w'
       losing_next ek h =
           let done = rw (l.lefts, l.rights, l.many, l.here) at h in
           rising_step s r.c_below here ek done.frame
@@ -215,7 +215,7 @@ module _ {i : ℕ} {d z : List ℕ} {p : ℕ} {e : List ℤ} {e-in : Bool} {ea a
 
 -- ---- a row is divided
 pub divide_asks : {i : ℕ} {d z : List ℕ} {p : ℕ} {e : List ℤ} {e-in : Bool} {ea b g u : ℕ} {w : List ℤ} {a cap top : ℕ}
-    → DivideReady i d z p e e-in ea b g u w a cap top → UnitReady i d z p e e-in ea e true b g e true u w a cap top
+    → DivideReady i d z p e e-in ea b g u w a cap top → UnitReady i d z p e e-in ea [] true b g [] true u w a cap top
 divide_asks r = record {
   dividing = record {
     modulus = r.acting.modulus;
@@ -245,7 +245,7 @@ divide_asks r = record {
 }
 
 pub divide_done : {i : ℕ} {d : List ℕ} {p : ℕ} {e : List ℤ} {e-in : Bool} {ea b g u : ℕ} {w w' : List ℤ} {a cap top : ℕ}
-    → UnitDone i d p e e-in ea e true b g e true u w w' a cap top → DivideDone i d p e e-in ea b g u w w' a cap top
+    → UnitDone i d p e e-in ea [] true b g [] true u w w' a cap top → DivideDone i d p e e-in ea b g u w w' a cap top
 divide_done h = record {
   frame = h.frame;
   done = λ p_pos t f l v tower dividend divisor unit. h.done p_pos t f l v (record { tower = tower; dividend = dividend; divisor = divisor }) unit;

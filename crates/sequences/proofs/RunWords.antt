@@ -9,7 +9,7 @@ use native.Mathlib.Nat.{mul-le-mul_left, mul-le-mul_right}
 use native.Mathlib.Omega.{arith}
 use mathlib.Core.Path.{◌≡◌, ap, sym, ◌∙◌, subst}
 use mathlib.Core.Bool.{Bool, true}
-use mathlib.Core.List.{List}
+use mathlib.Core.List.{List, []}
 use lib.IntN.{ℤ, pos}
 use lib.ListN.{length, get_or}
 use Rattle.tower.specs.Levels.{degree}
@@ -103,11 +103,11 @@ module _ {I : ℕ} {d z : List ℕ} {p : ℕ} {e : List ℤ} {e-in : Bool} {ea :
           at-is : at ≡ top + ((g + 1) * s + 1) + 1 + (n - 1) * s
           at-is = omega (arith, ep, row_is)
 
-          pub run_inverts : InvertReady j d z p e e-in (ea + S + s) e true at w₁ k.unit (top + 5 * ((g + 1) * s + 1))
+          pub run_inverts : InvertReady j d z p e e-in (ea + S + s) [] true at w₁ k.unit (top + 5 * ((g + 1) * s + 1))
           run_inverts = rw (under-is, unit_is, at-is, eg, one_size) (begin_asks ready at_first began)
 
-          module _ {w₂ : List ℤ} (c : Result (Unit {0}) Stop) (i : InvertDone j d p e e-in (ea + S + s) e true at w₁ w₂ k.unit (top + 5 * ((g + 1) * s + 1)) c) where
-            inverted : InvertDone j d p e e-in (under_of d j ea) e true (top + ((degree d j + 1) * size d j + 1) + 1 + (n - 1) * size d j) w₁ w₂
+          module _ {w₂ : List ℤ} (c : Result (Unit {0}) Stop) (i : InvertDone j d p e e-in (ea + S + s) [] true at w₁ w₂ k.unit (top + 5 * ((g + 1) * s + 1)) c) where
+            inverted : InvertDone j d p e e-in (under_of d j ea) [] true (top + ((degree d j + 1) * size d j + 1) + 1 + (n - 1) * size d j) w₁ w₂
                 (top + 4 * ((degree d j + 1) * size d j + 1) + size d j) (next_of d j top) c
             inverted = rw (under-is, unit_is, at-is, eg, one_size) at i
 

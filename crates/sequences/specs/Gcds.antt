@@ -11,7 +11,7 @@
 -- LedStands == a polynomial of the sequence stands, with the inverse of its leading coefficient
 -- Sought    == what the sequence on two polynomials, the second of which may be zero, comes to
 -- TurnsReady, TurnsDone == the sequence
-use Rattle.std.specs.Prelude.{ℕ, suc, ◌+◌, ◌-◌, ◌*◌, ◌^◌, ◌<◌, ◌≤◌, ◌≡◌, Bool, true, ◌⊎◌, List, ℤ, length, Result, Ok, Err}
+use Rattle.std.specs.Prelude.{ℕ, suc, ◌+◌, ◌-◌, ◌*◌, ◌^◌, ◌<◌, ◌≤◌, ◌≡◌, Bool, true, ◌⊎◌, List, [], ℤ, length, Result, Ok, Err}
 use Rattle.algebra.specs.UnitDivide.{scaleᵛ}
 use Rattle.algebra.specs.Vec.{coef, trunc}
 use Rattle.residue.specs.Number.{Modulus}
@@ -119,11 +119,11 @@ pub record LeadReady (i : ℕ) (d z : List ℕ) (p : ℕ) (e : List ℤ) (e-in :
   pub low : i ≤ 4
   pub sized : Sized d z
   pub row_below : row + n * size d i ≤ length w
-  pub some : 0 < n → InvertReady i d z p e e-in ea e true (row + (n - 1) * size d i) w unit top
+  pub some : 0 < n → InvertReady i d z p e e-in ea [] true (row + (n - 1) * size d i) w unit top
 
 pub record LeadDone (i : ℕ) (d : List ℕ) (p : ℕ) (e : List ℤ) (e-in : Bool) (ea row unit n : ℕ) (w w' : List ℤ) (top : ℕ) (r : Result (Unit {0}) Stop) : Type 0 where
   pub none : n ≡ 0 → (r ≡ Ok tt) × (w' ≡ w)
-  pub some : 0 < n → InvertDone i d p e e-in ea e true (row + (n - 1) * size d i) w w' unit top r
+  pub some : 0 < n → InvertDone i d p e e-in ea [] true (row + (n - 1) * size d i) w w' unit top r
 
 -- each of n coefficients is multiplied by the inverse at unit
 pub record MonicReady (i : ℕ) (d z : List ℕ) (p : ℕ) (e : List ℤ) (e-in : Bool) (ea row unit n : ℕ) (w : List ℤ) (top : ℕ) : Type 0 where

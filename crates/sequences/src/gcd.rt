@@ -1,7 +1,8 @@
 // GCD of two polynomials in the store: both leading coefficients are inverted, the first one's first; then the remainders are taken in turn, the row of the
 // dividend becoming that of the remainder. A constant ends it, and the GCD is 1; else the last polynomial that is not zero is made monic.
-ghost use Rattle.std.specs.Prelude.{◌≡◌, ◌≤◌, max};
+ghost use Rattle.std.specs.Prelude.{◌≤◌};
 ghost use Rattle.sequences.specs.Gcds.{LeadReady, LeadDone, MonicReady, MonicDone, TurnReady, TurnDone, TurnsReady, TurnsDone, GcdLedReady, GcdLedDone, GcdReady, GcdDone};
+ghost use Rattle.arithmetic.specs.Sources.{lent, stored};
 
 use super::inverse::{follow, invert};
 use super::rows::{divide_row, scale_row};
@@ -21,17 +22,16 @@ pub fn lead(
     w: &mut [i64],
     top: usize,
 ) -> Result<(), Stop>
-    requires { LeadReady i d z p e.lent.now e.stored e.at f.row f.unit f.count w.old top }
-    ensures { LeadDone i d p e.entry.lent.now e.entry.stored e.entry.at f.row f.unit f.count w.old w.new top result }
+    requires { LeadReady i d z p (lent e) (stored e) e.at f.row f.unit f.count w.old top }
+    ensures { LeadDone i d p (lent e.entry) (stored e.entry) e.entry.at f.row f.unit f.count w.old w.new top result }
 {
     if f.count == 0 {
         return Ok(());
     }
     let s = size_at(z, i);
     let leading = Source {
-        stored: true,
+        lent: None,
         at: part_at(f.row, f.count - 1, s),
-        ..e
     };
     invert(i, d, z, p, e, leading, w, f.unit, top)
 }
@@ -47,8 +47,8 @@ pub fn monic(
     w: &mut [i64],
     top: usize,
 ) -> Greatest
-    requires { MonicReady i d z p e.lent.now e.stored e.at f.row f.unit f.count w.old top }
-    ensures { MonicDone i d p e.entry.lent.now e.entry.stored e.entry.at f.row f.unit f.count w.old w.new top result }
+    requires { MonicReady i d z p (lent e) (stored e) e.at f.row f.unit f.count w.old top }
+    ensures { MonicDone i d p (lent e.entry) (stored e.entry) e.entry.at f.row f.unit f.count w.old w.new top result }
 {
     if f.count == 0 {
         return Greatest {
@@ -75,8 +75,8 @@ pub fn turn(
     w: &mut [i64],
     top: usize,
 ) -> Result<usize, Stop>
-    requires { TurnReady i d z p e.lent.now e.stored e.at f.row f.unit f.count g.row g.unit g.count w.old top }
-    ensures { TurnDone i d p e.entry.lent.now e.entry.stored e.entry.at f.row f.unit f.count g.row g.unit g.count w.old w.new top result }
+    requires { TurnReady i d z p (lent e) (stored e) e.at f.row f.unit f.count g.row g.unit g.count w.old top }
+    ensures { TurnDone i d p (lent e.entry) (stored e.entry) e.entry.at f.row f.unit f.count g.row g.unit g.count w.old w.new top result }
 {
     if f.count < g.count {
         return Ok(f.count);
@@ -110,8 +110,8 @@ pub fn end_turns(
     w: &mut [i64],
     top: usize,
 ) -> Greatest
-    requires { (g.count ≤ 1) × TurnsReady i d z p e.lent.now e.stored e.at f.row f.unit f.count g.row g.unit g.count w.old top }
-    ensures { TurnsDone i d p e.entry.lent.now e.entry.stored e.entry.at f.row f.unit f.count g.row g.unit g.count w.old w.new top (Ok result) }
+    requires { (g.count ≤ 1) × TurnsReady i d z p (lent e) (stored e) e.at f.row f.unit f.count g.row g.unit g.count w.old top }
+    ensures { TurnsDone i d p (lent e.entry) (stored e.entry) e.entry.at f.row f.unit f.count g.row g.unit g.count w.old w.new top (Ok result) }
 {
     if g.count == 1 {
         one(i, d, z, w, g.row);
@@ -135,27 +135,23 @@ pub fn turns(
     w: &mut [i64],
     top: usize,
 ) -> Result<Greatest, Stop>
-    requires { TurnsReady i d z p e.lent.now e.stored e.at first.row first.unit first.count second.row second.unit second.count w.old top }
-    ensures { TurnsDone i d p e.entry.lent.now e.entry.stored e.entry.at first.row first.unit first.count second.row second.unit second.count w.old w.new top result }
+    requires { TurnsReady i d z p (lent e) (stored e) e.at first.row first.unit first.count second.row second.unit second.count w.old top }
+    ensures { TurnsDone i d p (lent e.entry) (stored e.entry) e.entry.at first.row first.unit first.count second.row second.unit second.count w.old w.new top result }
 {
     let mut f = first;
     let mut g = second;
-    let most = larger(f.count, g.count) + 1;
-    for _taken in 0..most {
-        if g.count < 2 {
-            return Ok(end_turns(i, d, z, p, e, f, g, w, top));
+    let mut left = f.count.max(g.count) + 1;
+    // Stays: a while, since the second polynomial's count is what ends it; the counter of number 11 stands beside it
+    // (docs/DECISIONS.md, "The code counts its remainders").
+    while 1 < g.count {
+        if left == 0 {
+            return Err(Stop::Long);
         }
+        left -= 1;
         let count = turn(i, d, z, p, e, f, g, w, top)?;
         (f, g) = (g, Led { count, ..f });
     }
-    Err(Stop::Long)
-}
-
-// The larger of two numbers.
-pub fn larger(m: usize, n: usize) -> usize
-    ensures { result ≡ max m n }
-{
-    m.max(n)
+    Ok(end_turns(i, d, z, p, e, f, g, w, top))
 }
 
 // The GCD of f and g where the inverse of f's leading coefficient stands.
@@ -170,8 +166,8 @@ pub fn gcd_led(
     w: &mut [i64],
     top: usize,
 ) -> Result<Greatest, Stop>
-    requires { GcdLedReady i d z p e.lent.now e.stored e.at f.row f.unit f.count g.row g.unit g.count w.old top }
-    ensures { GcdLedDone i d p e.entry.lent.now e.entry.stored e.entry.at f.row f.unit f.count g.row g.unit g.count w.old w.new top result }
+    requires { GcdLedReady i d z p (lent e) (stored e) e.at f.row f.unit f.count g.row g.unit g.count w.old top }
+    ensures { GcdLedDone i d p (lent e.entry) (stored e.entry) e.entry.at f.row f.unit f.count g.row g.unit g.count w.old w.new top result }
 {
     lead(i, d, z, p, e, g, w, top)?;
     if f.count == 0 {
@@ -192,8 +188,8 @@ pub fn gcd(
     w: &mut [i64],
     top: usize,
 ) -> Result<Greatest, Stop>
-    requires { GcdReady i d z p e.lent.now e.stored e.at f.row f.unit f.count g.row g.unit g.count w.old top }
-    ensures { GcdDone i d p e.entry.lent.now e.entry.stored e.entry.at f.row f.unit f.count g.row g.unit g.count w.old w.new top result }
+    requires { GcdReady i d z p (lent e) (stored e) e.at f.row f.unit f.count g.row g.unit g.count w.old top }
+    ensures { GcdDone i d p (lent e.entry) (stored e.entry) e.entry.at f.row f.unit f.count g.row g.unit g.count w.old w.new top result }
 {
     lead(i, d, z, p, e, f, w, top)?;
     gcd_led(i, d, z, p, e, f, g, w, top)

@@ -5,6 +5,7 @@
 ghost use Rattle.std.specs.Prelude.{◌<◌};
 ghost use Rattle.sequences.specs.Outcomes.{InvertReady, InvertDone, RunReady, RunDone, FollowReady, FollowDone};
 ghost use Rattle.sequences.specs.Passes.{RemainderReady, RemainderDone, CloseReady, CloseDone, Underway, PassesDone};
+ghost use Rattle.arithmetic.specs.Sources.{lent, stored};
 
 use super::rows::{divide_row, lose_product, scale_row, times};
 use super::starts::{begin, count_in, finish, follow_number, invert_number};
@@ -27,8 +28,8 @@ pub fn invert(
     c: usize,
     top: usize,
 ) -> Result<(), Stop>
-    requires { InvertReady i d z p e.lent.now e.stored e.at x.lent.now x.stored x.at w.old c top }
-    ensures { InvertDone i d p e.entry.lent.now e.entry.stored e.entry.at x.entry.lent.now x.entry.stored x.entry.at w.old w.new c top result }
+    requires { InvertReady i d z p (lent e) (stored e) e.at (lent x) (stored x) x.at w.old c top }
+    ensures { InvertDone i d p (lent e.entry) (stored e.entry) e.entry.at (lent x.entry) (stored x.entry) x.entry.at w.old w.new c top result }
 {
     if i == 0 {
         return invert_number(p, x, w, c);
@@ -60,8 +61,8 @@ pub fn follow(
     w: &mut [i64],
     top: usize,
 ) -> Result<usize, Stop>
-    requires { FollowReady i d z p e.lent.now e.stored e.at row n unit w.old top }
-    ensures { FollowDone i d p e.entry.lent.now e.entry.stored e.entry.at row n unit w.old w.new top result }
+    requires { FollowReady i d z p (lent e) (stored e) e.at row n unit w.old top }
+    ensures { FollowDone i d p (lent e.entry) (stored e.entry) e.entry.at row n unit w.old w.new top result }
 {
     let s = size_at(z, i);
     let k = top_of(i, n, s, w, row - 1);
@@ -74,9 +75,8 @@ pub fn follow(
     let free = part_at(row, n, s);
     times(i, d, z, p, e, unit, part_at(row, k - 1, s), w, free, top);
     let product = Source {
-        stored: true,
+        lent: None,
         at: free,
-        ..e
     };
     invert(i, d, z, p, e, product, w, free, top)?;
     times(i, d, z, p, e, free, unit, w, unit, top);
@@ -97,8 +97,8 @@ pub fn remainder(
     w: &mut [i64],
     next: usize,
 )
-    requires { RemainderReady h g s d z p e.lent.now e.stored e.at f k w.old next }
-    ensures { RemainderDone h g s d p e.entry.lent.now e.entry.stored e.entry.at f k w.old w.new next }
+    requires { RemainderReady h g s d z p (lent e) (stored e) e.at f k w.old next }
+    ensures { RemainderDone h g s d p (lent e.entry) (stored e.entry) e.entry.at f k w.old w.new next }
 {
     let n = k.count - 1;
     let lows = g + 2 - f.count;
@@ -134,8 +134,8 @@ pub fn close(
     w: &mut [i64],
     next: usize,
 ) -> Result<usize, Stop>
-    requires { CloseReady h g s d z p e.lent.now e.stored e.at f k w.old next }
-    ensures { CloseDone h g d p e.entry.lent.now e.entry.stored e.entry.at f k w.old w.new next result }
+    requires { CloseReady h g s d z p (lent e) (stored e) e.at f k w.old next }
+    ensures { CloseDone h g d p (lent e.entry) (stored e.entry) e.entry.at f k w.old w.new next result }
 {
     if k.count == 0 {
         scale_row(h, f.count, d, z, p, e, f.unit, w, f.row, next);
@@ -165,21 +165,25 @@ pub fn passes(
     w: &mut [i64],
     next: usize,
 ) -> Result<usize, Stop>
-    requires { Underway h g s d z p e.lent.now e.stored e.at first second w.old next }
-    ensures { PassesDone h g s d z p e.entry.lent.now e.entry.stored e.entry.at first second w.old w.new next result }
+    requires { Underway h g s d z p (lent e) (stored e) e.at first second w.old next }
+    ensures { PassesDone h g s d z p (lent e.entry) (stored e.entry) e.entry.at first second w.old w.new next result }
 {
     let mut f = first;
     let mut k = second;
-    for _taken in 0..g + 2 {
-        if k.count < 2 {
-            return close(h, g, s, d, z, p, e, f, k, w, next);
+    let mut left = g + 2;
+    // Stays: a while, since the second polynomial's count is what ends it; the counter of number 11 stands beside it
+    // (docs/DECISIONS.md, "The code counts its remainders").
+    while 1 < k.count {
+        if left == 0 {
+            return Err(Stop::Long);
         }
+        left -= 1;
         remainder(h, g, s, d, z, p, e, f, k, w, next);
         let n = k.count - 1;
         let count = follow(h, d, z, p, e, f.row, n, f.unit, w, next)?;
         (f, k) = (k, Led { count, ..f });
     }
-    Err(Stop::Long)
+    close(h, g, s, d, z, p, e, f, k, w, next)
 }
 
 // The inverse at level i, above 0: the answer stands where the result says, among the words from top on.
@@ -194,8 +198,8 @@ pub fn run(
     w: &mut [i64],
     top: usize,
 ) -> Result<usize, Stop>
-    requires { (0 < i) × RunReady i d z p e.lent.now e.stored e.at x.lent.now x.stored x.at w.old top }
-    ensures { RunDone i d p e.entry.lent.now e.entry.stored e.entry.at x.entry.lent.now x.entry.stored x.entry.at w.old w.new top result }
+    requires { (0 < i) × RunReady i d z p (lent e) (stored e) e.at (lent x) (stored x) x.at w.old top }
+    ensures { RunDone i d p (lent e.entry) (stored e.entry) e.entry.at (lent x.entry) (stored x.entry) x.entry.at w.old w.new top result }
 {
     let h = i - 1;
     let g = degree_at(d, h);
@@ -212,9 +216,8 @@ pub fn run(
     let f = Led::in_slot(top, slot, unit, g + 1);
     let k = Led::in_slot(top + slot, slot, unit + s, n);
     let leading = Source {
-        stored: true,
+        lent: None,
         at: part_at(k.row, n - 1, s),
-        ..e
     };
     invert(h, d, z, p, under, leading, w, k.unit, next)?;
     passes(h, g, s, d, z, p, under, f, k, w, next)

@@ -1,7 +1,7 @@
 // Rows of numbers in the store: level 0 of `rows`, in loops without the arrays of a tower.
 //
-// Stays: these loops beside those of `rows`, and those for two numbers beside those for any, since a GCD takes up to 29 per cent longer without them
-// (docs/DECISIONS.md, "Level 0 has loops of its own").
+// Stays: these loops beside those of `rows`, and those for two numbers beside those for any. Measured without them, a GCD of degree 4 took 19 per cent longer
+// over d = 2 and 41 over d = 16, and missed the bar of bench/README.md (docs/DECISIONS.md, "Level 0 has loops of its own").
 ghost use Rattle.std.specs.Prelude.{◌+◌, ◌≡◌, pos, set};
 ghost use Rattle.sequences.specs.Numbers.{TimesNumbersReady, times_number, LoseDotReady, lost_number, LoseRowReady, LoseRowDone, DivideAtReady, DividedAt};
 ghost use Rattle.sequences.specs.Numbers.{ScaleNumbersReady, ScaleNumbersDone, LoseNumbersReady, LoseNumbersDone, DivideNumbersReady, DivideNumbersDone};

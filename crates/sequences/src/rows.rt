@@ -1,5 +1,6 @@
 // Elements and rows of elements in the store. At level 0 they are numbers, and `numbers` has loops of their own for them.
 ghost use Rattle.sequences.specs.Rows.{TimesReady, TimesDone, ScaleRowReady, ScaleRowDone, LoseReady, LoseDone, DivideReady, DivideDone};
+ghost use Rattle.arithmetic.specs.Sources.{lent, stored};
 
 use super::numbers::{divide_numbers, lose_numbers, scale_numbers, times_numbers};
 use arithmetic::places::{Source, first_of, part_at, span_of};
@@ -21,21 +22,17 @@ pub fn times(
     c: usize,
     top: usize,
 )
-    requires { TimesReady i d z p e.lent.now e.stored e.at a b w.old c top }
-    ensures { TimesDone i d p e.entry.lent.now e.entry.stored e.entry.at a b w.old w.new c top }
+    requires { TimesReady i d z p (lent e) (stored e) e.at a b w.old c top }
+    ensures { TimesDone i d p (lent e.entry) (stored e.entry) e.entry.at a b w.old w.new c top }
 {
     if i == 0 {
         times_numbers(p, a, b, w, c);
         return;
     }
     let places = [0usize; 4];
-    let own = Source { stored: true, ..e };
-    let o = Operands {
-        i,
-        x: Source { at: a, ..own },
-        y: Source { at: b, ..own },
-        n: 1,
-    };
+    let x = Source { lent: None, at: a };
+    let y = Source { lent: None, at: b };
+    let o = Operands { i, x, y, n: 1 };
     product(i, d, z, p, places, e, o, false, false, w, c, top);
 }
 
@@ -52,8 +49,8 @@ pub fn scale_row(
     c: usize,
     top: usize,
 )
-    requires { ScaleRowReady i n d z p e.lent.now e.stored e.at u w.old c top }
-    ensures { ScaleRowDone i n d p e.entry.lent.now e.entry.stored e.entry.at u w.old w.new c top }
+    requires { ScaleRowReady i n d z p (lent e) (stored e) e.at u w.old c top }
+    ensures { ScaleRowDone i n d p (lent e.entry) (stored e.entry) e.entry.at u w.old w.new c top }
 {
     if i == 0 {
         scale_numbers(n, p, u, w, c);
@@ -81,8 +78,8 @@ pub fn lose_product(
     c: usize,
     top: usize,
 )
-    requires { LoseReady i d z p e.lent.now e.stored e.at a m b n w.old c top }
-    ensures { LoseDone i d p e.entry.lent.now e.entry.stored e.entry.at a m b n w.old w.new c top }
+    requires { LoseReady i d z p (lent e) (stored e) e.at a m b n w.old c top }
+    ensures { LoseDone i d p (lent e.entry) (stored e.entry) e.entry.at a m b n w.old w.new c top }
 {
     if i == 0 {
         lose_numbers(p, a, m, b, n, w, c);
@@ -90,7 +87,6 @@ pub fn lose_product(
     }
     let s = size_at(z, i);
     let places = [0usize; 4];
-    let own = Source { stored: true, ..e };
     for k in 0..m + n - 1 {
         let x = part_at(a, first_of(n, k), s);
         let y = part_at(b, first_of(m, k), s);
@@ -98,8 +94,8 @@ pub fn lose_product(
         let at = part_at(c, k, s);
         let o = Operands {
             i,
-            x: Source { at: x, ..own },
-            y: Source { at: y, ..own },
+            x: Source { lent: None, at: x },
+            y: Source { lent: None, at: y },
             n: q,
         };
         product(i, d, z, p, places, e, o, true, true, w, at, top);
@@ -122,15 +118,14 @@ pub fn divide_row(
     cap: usize,
     top: usize,
 )
-    requires { DivideReady i d z p e.lent.now e.stored e.at b g u w.old a cap top }
-    ensures { DivideDone i d p e.entry.lent.now e.entry.stored e.entry.at b g u w.old w.new a cap top }
+    requires { DivideReady i d z p (lent e) (stored e) e.at b g u w.old a cap top }
+    ensures { DivideDone i d p (lent e.entry) (stored e.entry) e.entry.at b g u w.old w.new a cap top }
 {
     if i == 0 {
         divide_numbers(p, b, g, u, w, a, cap);
         return;
     }
-    let own = Source { stored: true, ..e };
-    let divisor = Source { at: b, ..own };
-    let inverse = Source { at: u, ..own };
+    let divisor = Source { lent: None, at: b };
+    let inverse = Source { lent: None, at: u };
     unit_remainder(i, d, z, p, e, divisor, g, inverse, w, a, cap, top);
 }

@@ -6,9 +6,10 @@ ghost use Rattle.tower.specs.Store.{Put};
 ghost use Rattle.tower.specs.Writing.{count_of};
 ghost use Rattle.arithmetic.specs.Walk.{pick, Readable};
 ghost use Rattle.sequences.specs.Starts.{BringReady, NumberReady, NumberDone, FollowNumberReady, FollowNumberDone, BeginReady, BeginDone, FinishReady, FinishDone};
+ghost use Rattle.arithmetic.specs.Sources.{lent, stored};
 
 use crate::Stop;
-use arithmetic::places::{Source, part_at, words_of};
+use arithmetic::places::{Source, part_at};
 use arithmetic::rows::settle;
 use residue::rows::inverse;
 use tower::store::{copy, copy_in, one, zeros};
@@ -16,36 +17,35 @@ use tower::words::count_at;
 
 // n words of an operand, to a place of the store.
 pub fn bring(x: Source, w: &mut [i64], c: usize, n: usize)
-    requires { BringReady x.lent.now x.stored x.at w.old c n }
-    ensures { Put c (seg x.entry.at n (pick x.entry.stored w.old x.entry.lent.now)) w.old w.new }
+    requires { BringReady (lent x) (stored x) x.at w.old c n }
+    ensures { Put c (seg x.entry.at n (pick (stored x.entry) w.old (lent x.entry))) w.old w.new }
 {
-    if x.stored {
-        copy(w, c, x.at, n);
-    } else {
-        copy_in(x.lent, x.at, w, c, n);
+    match x.lent {
+        None => copy(w, c, x.at, n),
+        Some(words) => copy_in(words, x.at, w, c, n),
     }
 }
 
 // The count of coefficients that the degree word of an operand tells.
 pub fn count_in(x: Source, w: &[i64]) -> usize
-    requires { x.at < length (pick x.stored w.now x.lent.now) }
-    ensures { result ≡ count_of (get_or (pick x.entry.stored w.now x.entry.lent.now) x.entry.at (pos 0)) }
+    requires { x.at < length (pick (stored x) w.now (lent x)) }
+    ensures { result ≡ count_of (get_or (pick (stored x.entry) w.now (lent x.entry)) x.entry.at (pos 0)) }
 {
-    count_at(words_of(x, w), x.at)
+    count_at(x.words(w), x.at)
 }
 
 // The residue at a place of an operand.
 pub fn residue_in(x: Source, w: &[i64]) -> u64
-    requires { Readable (pick x.stored w.now x.lent.now) x.at }
-    ensures { result ≡ at (pick x.entry.stored w.now x.entry.lent.now) x.entry.at }
+    requires { Readable (pick (stored x) w.now (lent x)) x.at }
+    ensures { result ≡ at (pick (stored x.entry) w.now (lent x.entry)) x.entry.at }
 {
-    residue::get_residue(words_of(x, w), x.at)
+    residue::get_residue(x.words(w), x.at)
 }
 
 // Level 0: the inverse of a number, or its greatest common divisor with p, at c.
 pub fn invert_number(p: u64, x: Source, w: &mut [i64], c: usize) -> Result<(), Stop>
-    requires { NumberReady p x.lent.now x.stored x.at w.old c }
-    ensures { NumberDone p x.entry.lent.now x.entry.stored x.entry.at w.old w.new c result }
+    requires { NumberReady p (lent x) (stored x) x.at w.old c }
+    ensures { NumberDone p (lent x.entry) (stored x.entry) x.entry.at w.old w.new c result }
 {
     match inverse(residue_in(x, w), p) {
         Ok(u) => {
@@ -98,8 +98,8 @@ pub fn begin(
     w: &mut [i64],
     top: usize,
 )
-    requires { BeginReady h g s d z e.lent.now e.stored e.at x.lent.now x.stored x.at w.old top }
-    ensures { BeginDone h d e.entry.lent.now e.entry.stored e.entry.at x.entry.lent.now x.entry.stored x.entry.at w.old w.new top }
+    requires { BeginReady h g s d z (lent e) (stored e) e.at (lent x) (stored x) x.at w.old top }
+    ensures { BeginDone h d (lent e.entry) (stored e.entry) e.entry.at (lent x.entry) (stored x.entry) x.entry.at w.old w.new top }
 {
     let slot = (g + 1) * s + 1;
     let modulus = Source { at: e.at + 1, ..e };

@@ -12,6 +12,8 @@ pub const MOST_WORDS: usize = 512;
 pub const MOST_DIGITS: usize = 10;
 
 // Whether a and b hold the same bytes.
+//
+// Stays: `==` takes no array beside a slice. Each caller would write `name == b"a".as_slice()` or `name == &b"a"[..]`, no plainer than `same(name, b"a")`.
 pub fn same(a: &[u8], b: &[u8]) -> bool
     ensures { result ≡ same_text a.now b.now }
 {
@@ -36,17 +38,14 @@ pub fn read_words(text: &[u8], from: usize, words: &mut [i64]) -> Option<usize>
     requires { ((from ≤ length text.now) × (length text.now ≤ most_bytes)) × (most_words ≤ length words.old) }
     ensures { WordsRead words.new result (fields_at text.now from) }
 {
-    let mut at = from;
     let mut n: usize = 0;
-    while at <= text.len() {
-        let end = field_end(text, at);
-        let w = number_of(&text[at..end], MOST_DIGITS)?;
+    for field in text[from..].split(|b| *b == b'\t') {
+        let word = number_of(field, MOST_DIGITS)?;
         if MOST_WORDS <= n {
             return None;
         }
-        words[n] = w;
+        words[n] = word;
         n += 1;
-        at = end + 1;
     }
     Some(n)
 }

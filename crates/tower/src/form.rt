@@ -10,6 +10,7 @@ use super::store::is_zero;
 use super::words::{count, count_at};
 
 // The word at a place is from 0 to p - 1.
+// Stays: `as`, behind the test that the word is not negative; `try_from` would test it again at every word of a tower.
 pub fn residue(x: &[i64], a: usize, p: u64) -> bool
     requires { a < length x.now }
     ensures { result ≡ residue_ok p (get_or x.now a (pos 0)) }

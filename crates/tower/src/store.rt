@@ -1,7 +1,7 @@
 // The small tools of the store, one list of words in which everything has its place: words put, cleared and copied, the zero and the one of a level
 // written, the zero test. What writes says which words, and that all others are as before (`Put` of specs/Store.antt).
 //
-// Stays: words are told by their place in one lent list, as there is no heap, and `Put` and all that stands on it speak of places.
+// Stays: words are told by their place in one lent list, since `Put`, which every promise above stands on, speaks of places in a whole list.
 //
 // The number of coefficients up to the highest that is not zero is `words::count_at`. What it and `is_zero` tell of an element: specs/Stands.antt.
 ghost use Rattle.std.specs.Prelude.{◌≡◌, [], ◌∷◌, ◌+◌, ◌<◌, ◌≤◌, pos, length, get_or};

@@ -12,6 +12,7 @@ pub fn word_at(x: &[i64], a: usize) -> i64
 }
 
 // The number that a word holds, 0 for a negative one.
+// Stays: beside residue::number, the same as u64: each is one call of std, and a generic one would say more than both.
 pub fn nat(g: i64) -> usize
     ensures { result ≡ num g }
 {

@@ -146,6 +146,8 @@ fn gain<F: FnOnce(i64, i64, [i64; 4], &[i64], &mut [i64], &[i64]) -> Answer>(
 }
 
 // Product: p N d1 d2 d3 d4, the tower's words, the words of a, of b, of c and of the work store
+// Stays: a function for each call from here on, since each reads other lists and hands them to
+// another call of the kernel.
 fn product(numbers: &mut Numbers, out: &mut Output) -> Result<(), BadLine> {
     let over = numbers.over()?;
     let a = numbers.list()?;

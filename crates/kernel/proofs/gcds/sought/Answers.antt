@@ -46,9 +46,9 @@ overflow_add-top c =
 pub gcd-requires : goal.gcd-requires
 gcd-requires c =
     find_ready _ _ _ _ _ _ _ _ _ c.requires.1.passed _ c.requires.0 _ _ c.count_at-ca.ensures c.count_at-cb.ensures
-    _ c.coefficient_at-row.ensures _ c.coefficient_at-unit.ensures _ c.copy_in.ensures _ c.copy_in-2.ensures _ c.modulus.ensures
+    _ c.coefficient_at-row.ensures _ c.coefficient_at-unit.ensures _ c.copy_in.ensures _ c.copy_in-2.ensures _ c.modulus-p.ensures
 
 pub returns : goal.returns
 returns c =
     sought_done _ _ _ _ _ _ _ _ _ c.requires.1.passed _ c.requires.0 _ _ c.count_at-ca.ensures c.count_at-cb.ensures
-    _ c.coefficient_at-row.ensures _ c.coefficient_at-unit.ensures _ c.copy_in.ensures _ c.copy_in-2.ensures _ c.modulus.ensures _ c.gcd.result c.gcd.ensures
+    _ c.coefficient_at-row.ensures _ c.coefficient_at-unit.ensures _ c.copy_in.ensures _ c.copy_in-2.ensures _ c.modulus-p.ensures _ c.gcd.result c.gcd.ensures

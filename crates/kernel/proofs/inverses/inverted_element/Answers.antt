@@ -6,13 +6,13 @@ use Rattle.kernel.proofs.inverses.inverted_element.Goals.{After-run-ended}
 
 abbrev ran : (c : After-run-ended) → (let x = c.args in Worked x.tower.p x.tower.n x.tower.e x.tower.t.now x.c.now x.r.now x.f.now x.v.now c.requires.2)
 ran c =
-    worked _ _ _ _ _ _ _ _ c.requires.2 _ c.requires.0 _ c.modulus.ensures _ c.inverse_work-needed.ensures.0 _ c.run-ended.result c.run-ended.ensures
+    worked _ _ _ _ _ _ _ _ c.requires.2 _ c.requires.0 _ c.modulus-p.ensures _ c.inverse_work-needed.ensures.0 _ c.run-ended.result c.run-ended.ensures
 
 pub run-ended-requires : goal.run-ended-requires
 run-ended-requires c = (
   c.requires.1,
-  run-ready _ _ _ _ _ _ _ _ c.requires.2 _ c.requires.0 _ c.modulus.ensures c.args.s.levels c.requires.0.levels _ 0
-      (store-room _ _ _ _ _ _ _ _ c.requires.2 _ c.requires.0 _ c.modulus.ensures),
+  run-ready _ _ _ _ _ _ _ _ c.requires.2 _ c.requires.0 _ c.modulus-p.ensures c.args.s.levels c.requires.0.levels _ 0
+      (store-room _ _ _ _ _ _ _ _ c.requires.2 _ c.requires.0 _ c.modulus-p.ensures),
 )
 
 pub ended_answer-answer-requires : goal.ended_answer-answer-requires

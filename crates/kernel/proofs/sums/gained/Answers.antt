@@ -12,8 +12,8 @@ coefficients-k-requires c =
 
 pub gain_row-requires : goal.gain_row-requires
 gain_row-requires c =
-    call_terms _ _ _ _ _ _ c.in_ok-s.ensures.0 _ c.in_ok-s.ensures.1 _ c.modulus.ensures _ c.coefficients-k.ensures
+    call_terms _ _ _ _ _ _ c.in_ok-s.ensures.0 _ c.in_ok-s.ensures.1 _ c.modulus-p.ensures _ c.coefficients-k.ensures
 
 pub returns : goal.returns
 returns c =
-    call_given _ _ _ _ _ _ c.in_ok-s.ensures.0 _ c.in_ok-s.ensures.1 _ c.modulus.ensures _ c.coefficients-k.ensures _ _ c.gain_row.ensures
+    call_given _ _ _ _ _ _ c.in_ok-s.ensures.0 _ c.in_ok-s.ensures.1 _ c.modulus-p.ensures _ c.coefficients-k.ensures _ _ c.gain_row.ensures

@@ -6,4 +6,4 @@ use Rattle.products.proofs.lowest.divided_at.Goals as goal
 pub dot-requires : goal.dot-requires
 dot-requires c =
     at-dot c.requires (ap (λ n. c.args.e.at + 1 + n) c.first_of.ensures) (ap (λ n. c.args.top + c.args.g + n) c.first_of-2.ensures) c.span_of-c.ensures
-    (sym c.words_of.ensures)
+    (sym c.words.ensures)

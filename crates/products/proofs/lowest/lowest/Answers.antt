@@ -4,10 +4,10 @@ use native.Mathlib.Omega.{arith}
 use Rattle.products.proofs.lowest.lowest.Goals as goal
 
 pub three-s-requires : goal.three-s-requires
-three-s-requires c = once_asks 2 c.requires c.in-1-eq2.is-0 c.degree_at-g.ensures c.in-1-eq2.is-1 c.words_of-x.ensures c.words_of-y.ensures
+three-s-requires c = once_asks 2 c.requires c.in-1-eq2.is-0 c.degree_at-g.ensures c.in-1-eq2.is-1 c.words.ensures c.words-in-1-eq2.ensures
 
 pub seven-s-requires : goal.seven-s-requires
-seven-s-requires c = once_asks 4 c.requires c.in-1-eq4.is-0 c.degree_at-g.ensures c.in-1-eq4.is-1 c.words_of-x.ensures c.words_of-y.ensures
+seven-s-requires c = once_asks 4 c.requires c.in-1-eq4.is-0 c.degree_at-g.ensures c.in-1-eq4.is-1 c.words-in-1-eq4.ensures c.words-in-1-eq4-2.ensures
 
 pub wide_of-k-requires : goal.wide_of-k-requires
 wide_of-k-requires c =

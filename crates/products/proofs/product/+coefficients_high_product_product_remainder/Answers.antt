@@ -1,7 +1,10 @@
-use Prim.Native.Nat.{ℕ, ◌+◌, ◌*◌, ◌^◌}
+use Rattle.arithmetic.specs.Sources.{lent, stored}
+use Rattle.arithmetic.specs.Walk.{pick}
+use lib.ListN.{length}
+use Prim.Native.Nat.{ℕ, ◌+◌, ◌*◌, ◌^◌, ◌<◌}
 use Rattle.arithmetic.specs.Places.{keeps_at, wide}
 use Rattle.products.proofs.Fillings.{filling_places, filling_asks, filling_next}
-use Rattle.products.proofs.Frames.{part-is, pick_long}
+use Rattle.products.proofs.Frames.{part-is}
 use Rattle.products.proofs.Products.{product-level, product-lower, product_places, coefficients_asks, remainder_asks, leave_asks, product_leaves}
 use Rattle.products.proofs.Remainders.{counted, stood_now, falling_asks, row-start, row_next, row_end}
 use Rattle.tower.specs.Writing.{size}
@@ -82,7 +85,7 @@ pub high_product-overflow_add-lower-2 : goal.high_product-overflow_add-lower-2
 high_product-overflow_add-lower-2 t c =
     let size-at = c.size_at-s in
     let size-at2 = c.size_at in
-    let long = pick_long c.args.e.stored c.args.w.now c.args.e.lent.now (2 ^ 63) (omega (arith, c.well_formed)) (omega (arith, c.well_formed)) in
+    let long : length (pick (stored c.args.e) c.args.w.now (lent c.args.e)) < 2 ^ 63 = grind (arith, c.well_formed) in
     record { fits = omega (arith, product-lower c.requires size-at.ensures size-at2.ensures, long) }
 
 pub high_product-copy-requires : goal.high_product-copy-requires
@@ -149,8 +152,7 @@ pub remainder-product-requires : goal.remainder-product-requires
 remainder-product-requires t c =
     let words = c.size_at-s.ensures ∙ c.requires.sized.at c.args.i c.requires.low in (
       omega (arith, c.decreases),
-      rw c.taken_at-o.ensures
-          (falling_asks c.requires c.loop-k-test.true c.loop-k.invariant (stood_now c.requires) refl (counted words c.part_at-c.ensures)),
+      falling_asks c.requires c.loop-k-test.true c.loop-k.invariant (stood_now c.requires) refl (counted words c.part_at-c.ensures) c.taken_at-o.ensures,
     )
 
 pub remainder-loop-k-preserved : goal.remainder-loop-k-preserved

@@ -1,4 +1,5 @@
 -- What falls round the cycle, and what a call asks for: a product at level j goes down to the coefficients and the remainder of level j - 1.
+use Rattle.arithmetic.specs.Sources.{lent, stored}
 use Prim.Native.Nat.{◌+◌, ◌-◌, ◌*◌}
 use Rattle.products.proofs.Fillings.{Filling}
 use Rattle.products.proofs.Remainders.{RowFalling}
@@ -20,8 +21,8 @@ decreases-remainder l = 3 * l.i + 1
 
 abbrev pub invariant-coefficients-loop-k : goal.invariant-coefficients-loop-k
 invariant-coefficients-loop-k l =
-    Filling l.j l.d l.p l.m l.e.lent.now l.e.stored l.e.at (operands l.o) l.neg l.keep l.initial.w l.top l.k l.w
+    Filling l.j l.d l.p l.m (lent l.e) (stored l.e) l.e.at (operands l.o) l.neg l.keep l.initial.w l.top l.k l.w
 
 abbrev pub invariant-remainder-loop-k : goal.invariant-remainder-loop-k
 invariant-remainder-loop-k l =
-    RowFalling l.i l.d l.p l.e.lent.now l.e.stored l.e.at l.y.lent.now l.y.stored l.y.at l.g l.initial.w l.a l.cap l.top l.k l.w
+    RowFalling l.i l.d l.p (lent l.e) (stored l.e) l.e.at (lent l.y) (stored l.y) l.y.at l.g l.initial.w l.a l.cap l.top l.k l.w

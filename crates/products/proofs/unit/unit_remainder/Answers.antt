@@ -7,8 +7,8 @@ use Rattle.products.proofs.unit.unit_remainder.Goals as goal
 pub product-requires : goal.product-requires
 product-requires c =
     let words = c.size_at-s.ensures ∙ c.requires.dividing.sized.at c.args.i c.requires.dividing.low in
-    rw c.taken_at-o.ensures
-    (falling_asks c.requires.dividing c.loop-k-test.true c.loop-k.invariant (unit_stood c.requires) refl (counted words c.part_at-c.ensures))
+    falling_asks c.requires.dividing c.loop-k-test.true c.loop-k.invariant (unit_stood c.requires) refl (counted words c.part_at-c.ensures)
+    c.taken_at-o.ensures
 
 pub scale_at-requires : goal.scale_at-requires
 scale_at-requires c =

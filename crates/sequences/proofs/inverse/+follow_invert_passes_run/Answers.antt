@@ -1,9 +1,11 @@
-use Prim.Native.Nat.{ℕ, ◌^◌}
-use Rattle.products.proofs.Frames.{pick_long}
+use Rattle.arithmetic.specs.Sources.{lent, stored}
+use Prim.Native.Nat.{ℕ, ◌^◌, ◌<◌}
+use Rattle.arithmetic.specs.Walk.{pick}
+use lib.ListN.{length}
 use Rattle.sequences.proofs.FollowLaws.{searches, follows_zero, multiplies, inverts, scales, goes_on, stops}
 use Rattle.sequences.proofs.FollowNumbers.{numbers_ask, numbers_follow}
 use Rattle.sequences.proofs.InvertLaws.{invert-level, copies-inverse, gives_inverse, copies_divisor, gives_divisor}
-use Rattle.sequences.proofs.PassLaws.{passes_fit, passing_start, passing_asks, passing_follows, passing_next, passing_stops, passing_closes, passing_ends}
+use Rattle.sequences.proofs.PassLaws.{passes_fit, passing_asks, passing_follows, passing_fewer, passing_next, passing_stops, passing_closes, passing_ends}
 use Rattle.sequences.proofs.RunWords.{Sizes, Slots, run_fits, run-reads, run-under, run_begins, run-count, run-place, run_inverts, run-underway, run-passes, run_stops}
 use Rattle.sequences.proofs.StartLaws.{number_asks, number_done}
 use native.Mathlib.Omega.{arith}
@@ -99,41 +101,42 @@ pub invert-returns-in-Err-Factor : goal.invert-returns-in-Err-Factor
 invert-returns-in-Err-Factor t c =
     gives_divisor c.requires c.run.ensures (c.in-Err-Factor.is ∙ ap Err c.in-Err-Factor.field-0-is) c.size_at-in-Err-Factor.ensures c.copy-in-Err-Factor.ensures
 
-pub passes-overflow_add-taken-end : goal.passes-overflow_add-taken-end
-passes-overflow_add-taken-end t c = omega (arith, passes_fit c.requires, c.well_formed)
-
-pub passes-loop-taken-init : goal.passes-loop-taken-init
-passes-loop-taken-init t c = passing_start c.requires (omega arith)
-
-pub passes-returns-then-k-lt2 : goal.passes-returns-then-k-lt2
-passes-returns-then-k-lt2 t c =
-    passing_ends c.requires c.loop-taken.invariant (omega (arith, c.if-k-lt2.true)) c.close.result c.close.ensures
-
-pub passes-close-requires : goal.passes-close-requires
-passes-close-requires t c =
-    passing_closes c.requires c.loop-taken.invariant (omega (arith, c.if-k-lt2.true))
+pub passes-overflow_add-left : goal.passes-overflow_add-left
+passes-overflow_add-left t c = omega (arith, passes_fit c.requires, c.well_formed)
 
 pub passes-remainder-requires : goal.passes-remainder-requires
 passes-remainder-requires t c =
-    passing_asks c.requires c.loop-taken.invariant (omega (arith, c.if-k-lt2.false))
+    passing_asks c.requires c.loop-k.invariant c.loop-k-test.true
 
 pub passes-follow-requires : goal.passes-follow-requires
 passes-follow-requires t c =
-    (omega (arith, c.decreases), passing_follows c.requires c.loop-taken.invariant (omega (arith, c.if-k-lt2.false)) c.remainder.ensures)
+    (omega (arith, c.decreases), passing_follows c.requires c.loop-k.invariant c.loop-k-test.true c.remainder.ensures)
 
-pub passes-loop-taken-preserved : goal.passes-loop-taken-preserved
-passes-loop-taken-preserved t c =
-    passing_next c.requires c.loop-taken.invariant (omega (arith, c.if-k-lt2.false)) c.remainder.ensures _ c.follow.ensures (omega arith) _ c.in_ok-count.was
+pub passes-loop-k-smaller : goal.passes-loop-k-smaller
+passes-loop-k-smaller t c =
+    passing_fewer c.requires c.loop-k.invariant c.loop-k-test.true c.remainder.ensures _ c.follow.ensures _ c.in_ok-count.was
+
+pub passes-loop-k-preserved : goal.passes-loop-k-preserved
+passes-loop-k-preserved t c =
+    passing_next c.requires c.loop-k.invariant c.loop-k-test.true c.remainder.ensures _ c.follow.ensures _ c.in_ok-count.was
 
 pub passes-returns-in_err-count : goal.passes-returns-in_err-count
 passes-returns-in_err-count t c =
     let p = err_from_is_err_and c.from_residual.result c.from_residual.ensures.1 in
     rw (p.1, p.2)
-    (passing_stops c.requires c.loop-taken.invariant (omega (arith, c.if-k-lt2.false)) c.remainder.ensures _ c.follow.ensures _ c.in_err-count.was)
+    (passing_stops c.requires c.loop-k.invariant c.loop-k-test.true c.remainder.ensures _ c.follow.ensures _ c.in_err-count.was)
+
+pub passes-close-requires : goal.passes-close-requires
+passes-close-requires t c =
+    passing_closes c.requires c.loop-k.invariant (omega (arith, c.loop-k-test.false))
+
+pub passes-returns : goal.passes-returns
+passes-returns t c =
+    passing_ends c.requires c.loop-k.invariant (omega (arith, c.loop-k-test.false)) c.close.result c.close.ensures
 
 pub run-overflow_add-under-2 : goal.run-overflow_add-under-2
 run-overflow_add-under-2 t c =
-    let long = pick_long c.args.e.stored c.args.w.now c.args.e.lent.now (2 ^ 63) (omega (arith, c.well_formed)) (omega (arith, c.well_formed)) in
+    let long : length (pick (stored c.args.e) c.args.w.now (lent c.args.e)) < 2 ^ 63 = grind (arith, c.well_formed) in
     record { fits = omega (arith, run-under c.requires (sizes t (goal.at.run-overflow_add-under-2 t c).After-size_at), long) }
 
 pub run-overflow_add-slot : goal.run-overflow_add-slot
