@@ -59,6 +59,9 @@ impl Shape {
 }
 
 // The shape of N and the degrees. Refuses 2.
+//
+// Inlined, here and in `Tower::checked`: the check of a small tower and the work sizes are little more than this.
+#[inline(always)]
 pub fn shape_of(n: i64, e: [i64; 4]) -> Result<Shape, Refusal>
     ensures { Checked (shape_number n e) n e result }
 {

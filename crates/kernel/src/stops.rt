@@ -21,6 +21,9 @@ pub fn show(v: &[i64], at: usize, n: usize, f: &mut [i64])
 }
 
 // The answer: the words of a factor go into the factor buffer f.
+//
+// Not inlined: where v is known to be the caller's own word, the copy of a factor is compiled to a call of memcpy, and the library for C asks for no more than memset.
+#[inline(never)]
 pub fn stopped(stop: Stop, s: Shape, v: &[i64], f: &mut [i64]) -> Answer
     requires { StopReady stop s v.now f.old }
     ensures { StopGiven stop s v.now f.old result f.new }

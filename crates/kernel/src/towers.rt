@@ -36,6 +36,7 @@ impl Tower<'_> {
     }
 
     // The shape, where the words are those of a tower. Refuses 1 to 3.
+    #[inline(always)]
     pub fn checked(self) -> Result<Shape, Refusal>
         ensures { let x = self.entry in Checked (tower_number x.p x.n x.e x.t.now) x.n x.e result }
     {

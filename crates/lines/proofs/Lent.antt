@@ -89,7 +89,7 @@ module _ (n : ℤ) (e : List ℤ) where
 
 -- ---- the words of a slot
 module _ (s : ℕ) where
-  part_fits : (answer_words - 1) / s * s ≤ answer_words - 1
+  pub part_fits : (answer_words - 1) / s * s ≤ answer_words - 1
   part_fits = div-mul-le_self (answer_words - 1) s
 
   pub slot_lent : slot_words s ≤ answer_words

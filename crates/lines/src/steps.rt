@@ -7,8 +7,8 @@ ghost use Rattle.lines.specs.Reading.{gcd, div, mul, inv, unreadable};
 ghost use Rattle.lines.specs.Steps.{nothing, missing_text, printed};
 
 use super::answers::{div, gcd, inv, mul};
-use super::keeping::{allowed, keep};
-use super::lengths::{element_words, slot_words};
+use super::keeping::{TOWER_WORDS, allowed, keep};
+use super::lengths::{ANSWER_WORDS, WORK_WORDS, element_words, slot_words};
 use super::printing::{end_number, opened};
 use super::reading::read_line;
 use crate::{Kept, Line, Ring, Room, Stores};
@@ -83,7 +83,13 @@ pub fn tell_gcd(k: Kept, s: &Stores, room: &mut Room, out: &mut [u8]) -> usize
 }
 
 // The answer of `div`, which writes the remainder over a copy of a.
-pub fn tell_div(k: Kept, s: &Stores, room: &mut Room, out: &mut [u8]) -> usize
+pub fn tell_div(
+    k: Kept,
+    s: &Stores,
+    answer: &mut [i64; ANSWER_WORDS],
+    work: &mut [i64; WORK_WORDS],
+    out: &mut [u8],
+) -> usize
     requires { Sound k × OutStore out.old }
     ensures { Appended 0 (printed (state_of k s.now.tower s.now.a s.now.b) 0 div) out.old out.new result }
 {
@@ -93,19 +99,24 @@ pub fn tell_div(k: Kept, s: &Stores, room: &mut Room, out: &mut [u8]) -> usize
     let ring = ring_of(k, &s.tower);
     let l = slot_words(element_words(ring.n, ring.e));
     let mut a = s.a;
-    let answer = &mut room.answer[..];
     div(
         ring,
         &mut a[..k.a],
         &s.b[..k.b],
         &mut answer[..l],
-        &mut room.work,
+        work,
         out,
     )
 }
 
 // The answer of `mul`.
-pub fn tell_mul(k: Kept, s: &Stores, room: &mut Room, out: &mut [u8]) -> usize
+pub fn tell_mul(
+    k: Kept,
+    s: &Stores,
+    answer: &mut [i64; ANSWER_WORDS],
+    work: &mut [i64; WORK_WORDS],
+    out: &mut [u8],
+) -> usize
     requires { Sound k × OutStore out.old }
     ensures { Appended 0 (printed (state_of k s.now.tower s.now.a s.now.b) 0 mul) out.old out.new result }
 {
@@ -114,32 +125,30 @@ pub fn tell_mul(k: Kept, s: &Stores, room: &mut Room, out: &mut [u8]) -> usize
     }
     let ring = ring_of(k, &s.tower);
     let l = slot_words(element_words(ring.n, ring.e));
-    let answer = &mut room.answer[..];
-    mul(
-        ring,
-        &s.a[..k.a],
-        &s.b[..k.b],
-        &mut answer[..l],
-        &mut room.work,
-        out,
-    )
+    mul(ring, &s.a[..k.a], &s.b[..k.b], &mut answer[..l], work, out)
 }
 
 // The answer of `inv`.
-pub fn tell_inv(k: Kept, s: &Stores, room: &mut Room, out: &mut [u8]) -> usize
+pub fn tell_inv(
+    k: Kept,
+    tower: &[i64; TOWER_WORDS],
+    a: &[i64; MOST_WORDS],
+    room: &mut Room,
+    out: &mut [u8],
+) -> usize
     requires { Sound k × OutStore out.old }
-    ensures { Appended 0 (printed (state_of k s.now.tower s.now.a []) 0 inv) out.old out.new result }
+    ensures { Appended 0 (printed (state_of k tower.now a.now []) 0 inv) out.old out.new result }
 {
     if k.a == 0 {
         return missing(out, b"inv");
     }
-    let ring = ring_of(k, &s.tower);
+    let ring = ring_of(k, tower);
     let n = element_words(ring.n, ring.e);
     let answer = &mut room.answer[..];
     let factor = &mut room.factor[..];
     inv(
         ring,
-        &s.a[..k.a],
+        &a[..k.a],
         &mut answer[..n],
         &mut factor[..n],
         &mut room.work,
@@ -163,9 +172,9 @@ pub fn tell(
         None => unreadable(out, number),
         Some(Line::Field(_) | Line::Ext(_) | Line::First(_) | Line::Second(_)) => 0,
         Some(Line::Gcd) => tell_gcd(k, s, room, out),
-        Some(Line::Div) => tell_div(k, s, room, out),
-        Some(Line::Mul) => tell_mul(k, s, room, out),
-        Some(Line::Inv) => tell_inv(k, s, room, out),
+        Some(Line::Div) => tell_div(k, s, &mut room.answer, &mut room.work, out),
+        Some(Line::Mul) => tell_mul(k, s, &mut room.answer, &mut room.work, out),
+        Some(Line::Inv) => tell_inv(k, &s.tower, &s.a, room, out),
     }
 }
 

@@ -136,8 +136,8 @@ pub fn lowest_from<const N: usize>(
 {
     // The quotient's, and then the others.
     // Stays: two loops of the same body, which the compiler writes out; as one loop of seven a product of one pair over d = 4 took a quarter more time.
-    for k in (g..N).rev() {
-        write_at(k, g, p, e, neg, keep, w, c, top, s[k]);
+    for h in (g..N).rev() {
+        write_at(h, g, p, e, neg, keep, w, c, top, s[h]);
     }
     for k in (0..g).rev() {
         write_at(k, g, p, e, neg, keep, w, c, top, s[k]);

@@ -179,7 +179,7 @@ module _ {h : ℕ} {d z : List ℕ} {p : ℕ} {e : List ℤ} {e-in : Bool} {ea :
             });
           }
 
-      begin_shows : (m at : ℕ) → c ≡ Err (Factor m at) → RunDone (suc h) d p e e-in ea x x_in a w₀ w₂ top (Err (Factor m at))
+      pub begin_shows : (m at : ℕ) → c ≡ Err (Factor m at) → RunDone (suc h) d p e e-in ea x x_in a w₀ w₂ top (Err (Factor m at))
       begin_shows m at ec =
           let k = came_factor p r.p_pos d h r.t.0 w₂ (top + 4 * slot d h + s) c m at ec (inv p r.p_pos d h r.t.0 q.c) came in
           run_done r begin_frame (Err (Factor m at))
@@ -188,7 +188,7 @@ module _ {h : ℕ} {d z : List ℕ} {p : ℕ} {e : List ℤ} {e-in : Bool} {ea :
           (shown_above r w₂ (Err (Factor m at)) (top + 4 * slot d h + s) k.0 (ap₂ (λ x y. Err (Factor x y)) k.2 k.3)
           laid.ku_low laid.ku_high k.4))
 
-      begin_over : c ≡ Err Long → ⊥
+      pub begin_over : c ≡ Err Long → ⊥
       begin_over ec =
           inv_never_long (level_of r) (good p r.p_pos d h r.t.0) q.c q.shape.1
           (came_long p r.p_pos d h r.t.0 w₂ (top + 4 * slot d h + s) c ec (inv p r.p_pos d h r.t.0 q.c) came)

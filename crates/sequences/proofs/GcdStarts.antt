@@ -1,7 +1,7 @@
 -- Laws of the GCD as a whole: both leading coefficients are inverted, the first one's first, and the sequence on the two comes to the GCD.
 --
 -- gcd-first, gcd_second == what the two inverses ask for
--- gcd_factor, gcd_over  == the first shows a factor; number 11 is not met;  gcd_factor_2, gcd_over_2 == of the second
+-- gcd_factor            == the first shows a factor;  gcd_factor_2 == the second does
 -- gcd_leads, gcd-after  == where the first is inverted: what the rest asks for, and that what it leaves is the GCD
 -- gcd-turns, gcd-sought == where f is not zero: what the sequence asks for, and that what it leaves is the GCD
 -- gcd-monic, gcd_end    == where f is zero: what making g monic asks for, and that it is the GCD
@@ -148,7 +148,7 @@ module _ {i : ℕ} {d z : List ℕ} {p : ℕ} {e : List ℤ} {e-in : Bool} {ea f
     up₂ : Upwards i d fr fu gr gu w w₂ top
     up₂ = up_swap i d gr gu fr fu top w w₂ (lead_up sited₁ (held_swap held) c y)
 
-    gcd_factor_2 : (l at : ℕ) → c ≡ Err (Factor l at) → GcdLedDone i d p e e-in ea fr fu m gr gu n w w₂ top (Err (Factor l at))
+    pub gcd_factor_2 : (l at : ℕ) → c ≡ Err (Factor l at) → GcdLedDone i d p e e-in ea fr fu m gr gu n w w₂ top (Err (Factor l at))
     gcd_factor_2 l at ec =
         close (Err (Factor l at)) up₂ (λ p_pos t a b h q.
         let x = lead_shown sited₁ (held_swap h) c y l at ec in
@@ -229,7 +229,7 @@ module _ {i : ℕ} {d z : List ℕ} {p : ℕ} {e : List ℤ} {e-in : Bool} {ea f
   gcd-first = lead_asks r.sited given
 
   module _ {w₁ : List ℤ} (c : Result (Unit {0}) Stop) (y : LeadDone i d p e e-in ea fr fu m w w₁ top c) where
-    gcd_factor : (l at : ℕ) → c ≡ Err (Factor l at) → GcdDone i d p e e-in ea fr fu m gr gu n w w₁ top (Err (Factor l at))
+    pub gcd_factor : (l at : ℕ) → c ≡ Err (Factor l at) → GcdDone i d p e e-in ea fr fu m gr gu n w w₁ top (Err (Factor l at))
     gcd_factor l at ec = record {
       frame = lead_up r.sited given c y;
       done = λ p_pos t a b tower left right.

@@ -3,7 +3,7 @@
 -- Sizes, Slots                      == what the code reads; the five slots end below a bound
 -- run-level, run_fits, run-under, run-place == the numbers fit
 -- run-reads, run_begins, run-count, run_inverts == what is asked for
--- run-underway, run-passes, run_shows, run_over == the sequence from there on; a factor of a level below; number 11 is not met
+-- run-underway, run-passes == the sequence from there on
 use Prim.Native.Nat.{ℕ, suc, ◌+◌, ◌-◌, ◌*◌, ◌<◌, ◌≤◌}
 use native.Mathlib.Nat.{mul-le-mul_left, mul-le-mul_right}
 use native.Mathlib.Omega.{arith}

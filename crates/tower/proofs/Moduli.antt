@@ -153,7 +153,7 @@ module _ (p : ℕ) (d : List ℕ) (n : ℕ) (t : List ℤ) (a i j : ℕ) (e : su
           same = split ∙ ap (λ x. x && tower_form p d j (drop (a + modulus_size d j) t)) good ∙ ap (λ (y : ℕ). tower_form p d j (drop y t)) (sym z);
         }
 
-under : (n s : ℕ) → 0 < s → n ≤ n * s
+pub under : (n s : ℕ) → 0 < s → n ≤ n * s
 under n s h = rw (mul-one n) at (mul-le-mul_left n h)
 
 pub level : {p : ℕ} {d : List ℕ} {n : ℕ} {t : List ℤ} {a i j m s : ℕ} → Left p d n t a i → m ≡ get_or d j 0 → s ≡ size d j → suc j ≡ i → Level d t a j m s

@@ -1,15 +1,16 @@
--- Laws of what is written into the store: one copy more; the zero and the one of a level, and that their parts are inside.
-use Prim.Native.Nat.{ℕ, zero, suc, ◌+◌, ◌-◌, ◌*◌}
+-- Laws of what is written into the store: one copy more, one word more; the zero and the one of a level, and that their parts are inside.
+use Prim.Native.Nat.{ℕ, zero, suc, ◌+◌, ◌-◌, ◌*◌, ◌<◌}
 use mathlib.Core.Path.{◌≡◌, refl, sym, ap, ◌∙◌, subst}
 use mathlib.Core.List.{List, [], ◌∷◌, ◌++◌, append_assoc, append-nil}
 use native.Mathlib.Nat.{lt_irrefl, suc-mul}
 use native.Mathlib.Numerals.{add-one, sub-one}
 use native.Mathlib.Omega.{arith}
 use lib.IntN.{ℤ, pos, negsuc}
-use lib.ListN.{length, get_or}
+use lib.ListN.{length, get_or, drop, length-drop}
+use lib.Seq.{take-suc, get_or-drop}
 use Rattle.std.specs.Prelude.{replicate}
-use Rattle.tower.specs.Form.{copies, zero_words, one_words}
-use Rattle.tower.specs.Lists.{copies_long}
+use Rattle.tower.specs.Form.{seg, copies, zero_words, one_words}
+use Rattle.tower.specs.Lists.{seg_long, copies_long}
 use Rattle.tower.specs.Ready.{Element, Positive, Run}
 use Rattle.tower.specs.Stands.{one_long}
 use Rattle.tower.specs.Store.{Put, put-append}
@@ -21,6 +22,9 @@ copies_more : (n : ℕ) (l : List ℤ) → copies (suc n) l ≡ copies n l ++ l
 copies_more zero l = append-nil l
 copies_more (suc n) l = ap (λ t. l ++ t) (copies_more n l) ∙ sym (append_assoc l (copies n l) l)
 
+seg_more : (a k : ℕ) (x : List ℤ) → a + k < length x → seg a (suc k) x ≡ seg a k x ++ (get_or x (a + k) (pos 0) ∷ [])
+seg_more a k x h = take-suc (drop a x) k (pos 0) (omega (arith, length-drop a x)) ∙ ap (λ g. seg a k x ++ (g ∷ [])) (get_or-drop a x k (pos 0))
+
 -- n copies of one word
 pub copies_word : (n : ℕ) (g : ℤ) → copies n (g ∷ []) ≡ replicate n g
 copies_word zero g = refl
@@ -31,6 +35,13 @@ pub next-copy : {a b : ℕ} {u v w : List ℤ} (k s : ℕ) (l : List ℤ) → le
     → Put a (copies k l) u v → Put b l v w → Put a (copies (k + 1) l) u w
 next-copy {a} {b} {u} {v} {w} k s l e h p q =
     subst (λ m. Put a m u w) (sym (copies_more k l) ∙ ap (λ n. copies n l) (sym (add-one k))) (put-append (omega (arith, copies_long k s l e)) p q)
+
+-- one word more of x, behind k of them
+pub next_word : {a b : ℕ} {u v w : List ℤ} {g : ℤ} (f k : ℕ) (x : List ℤ) → f + k < length x → b ≡ a + k → g ≡ get_or x (f + k) (pos 0)
+    → Put a (seg f k x) u v → Put b (g ∷ []) v w → Put a (seg f (k + 1) x) u w
+next_word {a} {b} {u} {v} {w} {g} f k x l h e p q =
+    let more : seg f k x ++ (g ∷ []) ≡ seg f (k + 1) x = ap (λ y. seg f k x ++ (y ∷ [])) e ∙ sym (seg_more f k x l) ∙ ap (λ n. seg f n x) (sym (add-one k)) in
+    subst (λ m. Put a m u w) more (put-append (omega (arith, seg_long f k x (omega arith))) p q)
 
 -- ---- elements
 module _ {i : ℕ} {d z : List ℕ} {x : List ℤ} {a : ℕ} (y : List ℤ) (e : length y ≡ length x) where

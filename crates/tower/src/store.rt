@@ -11,6 +11,7 @@ ghost use Rattle.tower.specs.Ready.{Element, Positive, Run};
 ghost use Rattle.tower.specs.Store.{Put, Apart};
 
 use super::sizes::{degree_at, size_at};
+use super::words::word_at;
 
 // One word.
 pub fn put_word(w: &mut [i64], at: usize, g: i64)
@@ -37,11 +38,15 @@ pub fn copy(w: &mut [i64], to: usize, from: usize, n: usize)
 }
 
 // n words from a lent list.
+//
+// A loop: `copy_from_slice` is compiled to a call of memmove, and the library for C asks for no more than memset.
 pub fn copy_in(x: &[i64], from: usize, w: &mut [i64], to: usize, n: usize)
     requires { (from + n ≤ length x.now) × (to + n ≤ length w.old) }
     ensures { Put to (seg from n x.now) w.old w.new }
 {
-    w[to..to + n].copy_from_slice(&x[from..from + n]);
+    for k in 0..n {
+        put_word(w, to + k, word_at(x, from + k));
+    }
 }
 
 // The zero of level i: a degree word -1, and zeros of the level below.

@@ -1,4 +1,8 @@
 // A line as it is read, byte by byte.
+ghost use Rattle.std.specs.Prelude.{◌≡◌, ◌<◌, [], ◌∷◌, ◌++◌, length};
+ghost use Rattle.arrayvec.specs.ArrayVec.{array_vec_len};
+ghost use Rattle.text.specs.Text.{number_of};
+
 use crate::calls::Call;
 use crate::numbers::{BadLine, Numbers};
 use crate::output::Output;
@@ -14,6 +18,21 @@ const MOST_BYTES: usize = 24;
 
 // The most digits of a number: those of the largest of the signed 64 bits.
 const MOST_DIGITS: usize = 19;
+
+// The number that a field is: of at most 19 digits.
+fn number_in(field: &[u8]) -> Option<i64>
+    ensures { result ≡ number_of 19 field.now }
+{
+    number_of(field, MOST_DIGITS)
+}
+
+// One byte more of a field. One of 24 bytes keeps them.
+fn keep_byte(field: &mut ArrayVec<u8, MOST_BYTES>, b: u8)
+    ensures kept { array_vec_len field.old < 24 → field.new.items ≡ field.old.items ++ b ∷ [] }
+    ensures full { array_vec_len field.old ≡ 24 → field.new ≡ field.old }
+{
+    let _ = field.try_push(b);
+}
 
 // What has been read of a line.
 #[derive(Drop)]
@@ -32,8 +51,10 @@ pub struct Line {
 }
 
 impl Line {
-    // The start of the first line.
-    pub fn new() -> Line {
+    // The start of the first line, with room for 131,072 numbers.
+    pub fn new() -> Line
+        ensures { length result.store ≡ 131072 }
+    {
         Line {
             number: 1,
             call: None,
@@ -48,9 +69,7 @@ impl Line {
         match b {
             b'\t' => self.end_field(),
             b'\n' => self.end(out),
-            _ => {
-                let _ = self.field.try_push(b);
-            }
+            _ => keep_byte(&mut self.field, b),
         }
     }
 
@@ -93,7 +112,7 @@ impl Line {
 
     // The field is a number, which is kept where there is room.
     fn end_number(&mut self) -> Result<(), BadLine> {
-        let number = number_of(self.field.as_slice(), MOST_DIGITS).ok_or(BadLine)?;
+        let number = number_in(self.field.as_slice()).ok_or(BadLine)?;
         if let Some(place) = self.store.get_mut(self.count) {
             *place = number;
         }

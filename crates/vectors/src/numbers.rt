@@ -1,9 +1,18 @@
 // The numbers of a line, read from the first to the last.
+ghost use Rattle.std.specs.Prelude.{◌≡◌, ◌≤◌, leb, length, IfOk};
+
 use std::mem;
 
 // The most words of a list that a call may change: more than the longest slot has, so that a slot
 // that is too long reaches the call.
 const MOST_CHANGED: usize = 70000;
+
+// A call may change a list of that many words: of at most 70,000.
+fn may_change(words: usize) -> bool
+    ensures { result ≡ leb words 70000 }
+{
+    words <= MOST_CHANGED
+}
 
 // The error of a line that asks for no call.
 #[derive(Clone, Copy)]
@@ -58,9 +67,11 @@ impl<'a> Numbers<'a> {
     }
 
     // A list that a call may change.
-    pub fn changed(&mut self) -> Result<&'a mut [i64], BadLine> {
+    pub fn changed(&mut self) -> Result<&'a mut [i64], BadLine>
+        ensures { IfOk result (λ words. length words.now ≤ 70000) }
+    {
         let words = self.words()?;
-        if words.len() <= MOST_CHANGED {
+        if may_change(words.len()) {
             Ok(words)
         } else {
             Err(BadLine)

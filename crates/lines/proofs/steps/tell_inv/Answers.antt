@@ -21,5 +21,5 @@ inv-requires c =
 pub returns : goal.returns
 returns c =
     retold
-    (inv_told c.ring_of-ring.ensures (search rules) c.requires.0 c.args.s.now.a [] (search rules) c.if-k-eq0.false _ _ _ (search rules) (search rules) (search rules))
+    (inv_told c.ring_of-ring.ensures (search rules) c.requires.0 c.args.a.now [] (search rules) c.if-k-eq0.false _ _ _ (search rules) (search rules) (search rules))
     c.inv.ensures

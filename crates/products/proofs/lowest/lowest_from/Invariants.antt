@@ -4,10 +4,10 @@ use Rattle.products.proofs.Lowerings.{Lowering}
 use Rattle.products.specs.Product.{operands}
 use Rattle.products.proofs.lowest.lowest_from.Given as goal
 
+abbrev pub invariant-loop-h : goal.invariant-loop-h
+invariant-loop-h g l =
+    Lowering l.fn.d l.p l.fn.m (lent l.e) (stored l.e) l.e.at (operands l.o) l.neg l.keep l.initial.w l.c l.top l.h l.w
+
 abbrev pub invariant-loop-k : goal.invariant-loop-k
 invariant-loop-k g l =
-    Lowering l.fn.d l.p l.fn.m (lent l.e) (stored l.e) l.e.at (operands l.o) l.neg l.keep l.initial.w l.c l.top l.k l.w
-
-abbrev pub invariant-loop-k-2 : goal.invariant-loop-k-2
-invariant-loop-k-2 g l =
     Lowering l.fn.d l.p l.fn.m (lent l.e) (stored l.e) l.e.at (operands l.o) l.neg l.keep l.fn.w l.c l.top l.k l.w
